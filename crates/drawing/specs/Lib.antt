@@ -1,0 +1,2 @@
+-- The one statement that a drawing of the machine has to satisfy.
+pub mod Drawing

@@ -1,0 +1,1 @@
+// The statement is in specs/; this crate has no code.

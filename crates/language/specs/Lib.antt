@@ -1,0 +1,2 @@
+-- The course language.
+pub mod Language

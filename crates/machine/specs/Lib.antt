@@ -1,0 +1,2 @@
+-- The instruction machine.
+pub mod Machine

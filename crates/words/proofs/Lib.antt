@@ -1,0 +1,4 @@
+-- Laws that several layers use.
+pub mod Bits
+pub mod Lists
+pub mod Runs
