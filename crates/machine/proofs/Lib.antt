@@ -1,1 +1,4 @@
--- Lemmas.
+-- Lemmas on the machine.
+pub mod Steps
+mod Taking
+mod Running

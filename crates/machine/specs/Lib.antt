@@ -1,2 +1,3 @@
--- The instruction machine.
+-- The instruction machine: its definition, and how the code's values stand for it.
 pub mod Machine
+pub mod Processor

@@ -3,12 +3,13 @@
 use mathlib.Core.Path.{_≡_, refl, sym, ap, ap₂, _∙_}
 use mathlib.Core.Bool.{Bool, true, false, not, _&&_, cond}
 use mathlib.Core.List.{List, [], _∷_, _++_, map}
-use Prim.Native.Nat.{ℕ, zero, suc, _+_, _-_, _*_, _/_, _%_, _<_, _≤_}
+use Prim.Native.Nat.{ℕ, zero, suc, _+_, _-_, _*_, _/_, _%_, min, _<_, _≤_}
 use native.Mathlib.Omega.{arith}
+use lib.Bits.{bitAnd, and-step, and-le-l}
 use lib.Dec.{eqb, ltb}
 use lib.ListN.{length}
 use Rattle.std.proofs.shelf.Tests.{eqb-true, eqb-false, eq-eqb, ne-eqb, lt-ltb, le-ltb}
-use Rattle.words.specs.Words.{bit, bits, value, shifted, nand16, nands}
+use Rattle.words.specs.Words.{bit, bits, value, shifted, nand, nands}
 
 pub bit-eqb : (x : ℕ) → x < 2 → bit (eqb x 1) ≡ x
 bit-eqb x h = go (eqb x 1) refl
@@ -109,6 +110,24 @@ word-of-sum bs n x c l e =
     go : (c : Bool) → value bs + shifted n (bit c) ≡ x → c ≡ not (ltb x (shifted n 1))
     go true e = let k = le-ltb x (shifted n 1) (omega arith) in rw k refl
     go false e = let z = shifted-bit n false in let b : value bs < shifted n 1 = rw l at (value-below bs) in let k = lt-ltb x (shifted n 1) (omega arith) in rw k refl
+
+-- NAND of all bits is all ones less the bits that both words have
+one-nand : (x y : ℕ) → x < 2 → y < 2 → bit (nand (eqb x 1) (eqb y 1)) + min x y ≡ 1
+one-nand zero zero h k = refl
+one-nand zero (suc zero) h k = refl
+one-nand (suc zero) zero h k = refl
+one-nand (suc zero) (suc zero) h k = refl
+one-nand zero (suc (suc y)) h k = absurd (omega arith)
+one-nand (suc zero) (suc (suc y)) h k = absurd (omega arith)
+one-nand (suc (suc x)) y h k = absurd (omega arith)
+
+pub nands-and : (n a b : ℕ) → a < shifted n 1 → b < shifted n 1 → value (nands (bits n a) (bits n b)) + bitAnd a b + 1 ≡ shifted n 1
+nands-and zero a b h k = let none = and-le-l a b in omega arith
+nands-and (suc n) a b h k =
+    let ih = nands-and n (a / 2) (b / 2) (omega arith) (omega arith) in
+    let one = one-nand (a % 2) (b % 2) (omega arith) (omega arith) in
+    let s = and-step a b in
+    omega arith
 
 -- NAND of words is a word
 pub nands-length : (xs ys : List Bool) → length xs ≡ length ys → length (nands xs ys) ≡ length xs
