@@ -28,7 +28,8 @@ pub enum Ran {
 
 // The processor at the start: everything 0, nothing taken, nothing put out.
 pub fn start() -> Processor
-    ensures { λ r. ⌜ ((mem tape out : List ℕ) → machine-of r mem tape out ≡ begin mem tape) ⌝ }
+    ensures machine { λ r. ⌜ ((mem tape out : List ℕ) → machine-of r mem tape out ≡ begin mem tape) ⌝ }
+    ensures counts { λ r. ⌜ (r .taken ≡ 0) × (r .sent ≡ 0) ⌝ }
 {
     Processor {
         pc: 0,

@@ -1,0 +1,2 @@
+-- Lemmas on decimal numbers.
+mod Digits

@@ -1,0 +1,2 @@
+-- Numbers in decimal, as the programs read them.
+pub mod Decimal
