@@ -27,15 +27,18 @@ module _ (text : List ℕ) (i n : ℕ) (within : i < length text) (left : Left t
       let digit : is-digit (getD text i 0) ≡ true = rw (le-leb 48 (getD text i 0) low, le-leb (getD text i 0) 57 high) refl in
       record {
         value = sym (ap (from-digits n) off) ∙ left .value;
-        digits = sym (ap all-digits off ∙ ap (λ (b : Bool). b && all-digits (drop (i + 1) text)) digit) ∙ left .digits }
+        digits = sym (ap all-digits off ∙ ap (λ (b : Bool). b && all-digits (drop (i + 1) text)) digit) ∙ left .digits;
+      }
 
   -- a byte that is no digit
   bad : is-digit (getD text i 0) ≡ false → T (all-digits text) → ⊥
   bad no-digit t =
       let none : all-digits text ≡ false = sym (left .digits) ∙ (ap all-digits (drop-more text i 0 within) ∙ ap (λ (b : Bool). b && all-digits (drop (i + 1) text)) no-digit) in
       subst T none t
+
   pub left-below : getD text i 0 < 48 → T (all-digits text) → ⊥
   left-below h = bad (rw (lt-leb 48 (getD text i 0) h) refl)
+
   pub left-above : 57 < getD text i 0 → T (all-digits text) → ⊥
   left-above h = bad (rw (le-leb 48 (getD text i 0) (omega arith), lt-leb (getD text i 0) 57 h) refl)
 

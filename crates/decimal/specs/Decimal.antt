@@ -9,9 +9,11 @@ use lib.ListN.{length}
 -- the bytes 48 to 57
 abbrev pub is-digit : ℕ → Bool
 is-digit c = leb 48 c && leb c 57
+
 abbrev pub all-digits : List ℕ → Bool
 all-digits [] = true
 all-digits (c ∷ cs) = is-digit c && all-digits cs
+
 -- the number that digits stand for, behind digits that stand for n
 abbrev pub from-digits : ℕ → List ℕ → ℕ
 from-digits n [] = n

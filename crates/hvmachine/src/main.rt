@@ -1,6 +1,8 @@
 // hvmachine: runs an image on the instruction machine and prints what it puts out.
 mod input;
 
+ghost use mathlib.Core.Path.{_≡_};
+ghost use Rattle.hvmachine.specs.Report.{ending-name};
 use input::Options;
 use machine::Ran;
 use machine::processor::Halt;
@@ -25,7 +27,10 @@ or full), or that it had not after N instructions (100000000 unless --limit says
 // So many words are put out at most before they are printed.
 const PIECE: u64 = 4096;
 
-fn ending_name(halted: Halt) -> &'static str {
+// The name that is printed for an ending.
+fn ending_name(halted: Halt) -> &'static str
+    ensures { λ r. ⌜ now r ≡ ending-name halted ⌝ }
+{
     match halted {
         Halt::Running => "not halted",
         Halt::Done => "done",
@@ -43,7 +48,12 @@ fn print_words(out: &mut impl Write, words: &[u16]) -> Result<(), AnyError> {
 }
 
 // Runs the image in pieces, each short enough for the room that its words have, and prints the words of each.
-fn run_image(out: &mut impl Write, image: &mut [u16], tape: &[u16], limit: u64) -> Result<(), AnyError> {
+fn run_image(
+    out: &mut impl Write,
+    image: &mut [u16],
+    tape: &[u16],
+    limit: u64,
+) -> Result<(), AnyError> {
     let mut words = [0u16; 4096];
     let mut p = machine::start();
     let mut left = limit;
@@ -75,7 +85,12 @@ fn hvmachine(rt: &LibcRuntime) -> Result<(), AnyError> {
         writeln!(out, "{HELP}")?;
     } else {
         let mut image = input::read_image(rt)?;
-        run_image(&mut out, image.as_mut_slice(), tape.as_slice(), limit as u64)?;
+        run_image(
+            &mut out,
+            image.as_mut_slice(),
+            tape.as_slice(),
+            limit as u64,
+        )?;
     }
     out.flush()?;
     Ok(())

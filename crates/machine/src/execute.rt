@@ -4,7 +4,7 @@ ghost use mathlib.Core.List.{List};
 ghost use Prim.Native.Nat.{ℕ, _-_, _<_, _≤_};
 ghost use lib.ListN.{length};
 ghost use Rattle.words.specs.Words.{add16, memory-size};
-ghost use Rattle.machine.specs.Machine.{Op, Load, Store, Zero, Jump, In, Out, operation, act, set-register, place, halt, target, execute};
+ghost use Rattle.machine.specs.Machine.{Load, Store, Zero, Jump, In, Out, operation, act, set-register, target};
 ghost use Rattle.machine.specs.Processor.{fields, machine-of, with-register, ending-of, Same-counts, Executed};
 use crate::instruction::Instruction;
 use crate::processor::Halt;
@@ -68,22 +68,14 @@ fn ending(op: u16) -> Halt
     }
 }
 
-// The place that a load or a store means.
-fn place_of(i: Instruction, p: Processor) -> usize
-    ensures value { λ r. ⌜ ((mem tape out : List ℕ) → r ≡ place (fields i) (machine-of p mem tape out)) ⌝ }
-    ensures within { λ r. ⌜ r < memory-size ⌝ }
-{
-    words::add(p.registers[i.a], i.m) as usize
-}
-
 // Register d takes the word at a + m.
 fn load(i: Instruction, p: Processor, mem: &[u16]) -> Processor
     requires { ⌜ length (now mem) ≡ memory-size ⌝ }
     ensures machine { λ r. ⌜ ((tape out : List ℕ) → machine-of r (now (mem .entry)) tape out ≡ act Load (fields i) (machine-of p (now (mem .entry)) tape out)) ⌝ }
     ensures counts { λ r. ⌜ Same-counts p r ⌝ }
 {
-    let w = mem[place_of(i, p)];
-    p.with_register(i.d, w)
+    let at = words::add(p.registers[i.a], i.m) as usize;
+    p.with_register(i.d, mem[at])
 }
 
 // The word in register d goes to the place a + m.
@@ -93,7 +85,8 @@ fn store(i: Instruction, p: Processor, mem: &mut [u16]) -> Processor
     ensures machine { λ r. ⌜ ((tape out : List ℕ) → machine-of r (now (mem .exit)) tape out ≡ act Store (fields i) (machine-of p (now (mem .entry)) tape out)) ⌝ }
     ensures counts { λ r. ⌜ Same-counts p r ⌝ }
 {
-    mem[place_of(i, p)] = p.registers[i.d];
+    let to = words::add(p.registers[i.a], i.m) as usize;
+    mem[to] = p.registers[i.d];
     Processor {
         pc: p.following(),
         ..p

@@ -13,8 +13,9 @@ pub returns-then-c-lt48 : need.returns-then-c-lt48
 returns-then-c-lt48 c = λ n h w.
     let text = c .args .text .now in
     elim (c .then-c-lt48 .came) [
-        then-c-lt48·by·then-c-lt48 way ↦ left-below text (c .loop-c .c-index) (c .loop-c .n) (c .loop-c-test .taken) (c .loop-c .inv .1) (way .if-c-lt48 .taken) (w .digits)
-      | then-c-lt48·by·else-c-lt48·then-c-gt57 way ↦ left-above text (c .loop-c .c-index) (c .loop-c .n) (c .loop-c-test .taken) (c .loop-c .inv .1) (way .if-c-gt57 .taken) (w .digits) ]
+      | then-c-lt48·by·then-c-lt48 way ↦ left-below text (c .loop-c .c-index) (c .loop-c .n) (c .loop-c-test .taken) (c .loop-c .inv .1) (way .if-c-lt48 .taken) (w .digits)
+      | then-c-lt48·by·else-c-lt48·then-c-gt57 way ↦ left-above text (c .loop-c .c-index) (c .loop-c .n) (c .loop-c-test .taken) (c .loop-c .inv .1) (way .if-c-gt57 .taken) (w .digits)
+    ]
 
 pub returns-then-more-bound : need.returns-then-more-bound
 returns-then-more-bound c = λ n h w.

@@ -1,0 +1,1 @@
+-- The proof stands with the function that asks for it.

@@ -1,0 +1,2 @@
+-- The promise across the layers.
+pub mod Stack
