@@ -1,2 +1,3 @@
 -- The course language.
 pub mod Language
+pub mod Limits
