@@ -1,1 +1,2 @@
--- Lemmas.
+-- Lemmas on the language.
+pub mod Fuel
