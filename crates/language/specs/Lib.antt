@@ -1,2 +1,3 @@
--- The course language.
+-- The course language, and a program held as nodes.
 pub mod Language
+pub mod Nodes

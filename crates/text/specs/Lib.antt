@@ -1,2 +1,8 @@
 -- The text of a program.
 pub mod Text
+pub mod Cut
+pub mod Numbers
+pub mod Kinds
+pub mod Shapes
+pub mod Reading
+pub mod Verdicts
