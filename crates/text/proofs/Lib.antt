@@ -8,3 +8,5 @@ pub mod Steps
 pub mod Written
 pub mod Sound
 pub mod Judging
+pub mod Fillings
+pub mod Linking

@@ -6,3 +6,6 @@ pub mod Kinds
 pub mod Shapes
 pub mod Reading
 pub mod Verdicts
+pub mod Bare
+pub mod Filling
+pub mod Links

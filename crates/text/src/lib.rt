@@ -1,7 +1,9 @@
-// The text of a program: what it is the writing of, and whether that is within the limits.
+// The text of a program: what it is the writing of, whether that is within the limits, and the program's nodes.
+mod bare;
 mod cut;
 pub mod judge;
 mod kinds;
 pub mod limits;
+mod links;
 mod numbers;
 mod reader;
