@@ -10,3 +10,5 @@ pub mod Sound
 pub mod Judging
 pub mod Fillings
 pub mod Linking
+pub mod Rows
+pub mod Trees

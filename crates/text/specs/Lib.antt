@@ -9,3 +9,4 @@ pub mod Verdicts
 pub mod Bare
 pub mod Filling
 pub mod Links
+pub mod Table
