@@ -79,12 +79,19 @@ abbrev pub Is-stmt : ℕ → List Node → ℕ → Stmt → Type 0
 Is-stmt zero nodes i s = ⊥
 Is-stmt (suc depth) nodes i s = (i < length nodes) × Stmt-node (Is-expr depth nodes) (Is-stmt depth nodes) i (node-at nodes i) s
 
+-- the expression e, the statement s stands at node i
+abbrev pub Expr-at : List Node → ℕ → Expr → Type 0
+Expr-at nodes i e = (depth : ℕ) × Is-expr depth nodes i e
+
+abbrev pub Stmt-at : List Node → ℕ → Stmt → Type 0
+Stmt-at nodes i s = (depth : ℕ) × Is-stmt depth nodes i s
+
 -- The table of procedures: entry f is of procedure f.
 abbrev pub entry-at : List Procedure → ℕ → Procedure
 entry-at table f = getD table f (record { locals = 0; body = 0 })
 
 abbrev pub Is-proc : List Node → Procedure → Proc → Type 0
-Is-proc nodes entry p = (entry .locals ≡ p .locals) × Is-stmt most-nodes nodes (entry .body) (p .body)
+Is-proc nodes entry p = (entry .locals ≡ p .locals) × Stmt-at nodes (entry .body) (p .body)
 
 -- every procedure is found in the table by its number
 abbrev pub Holds : List Node → List Procedure → List Proc → Type 0

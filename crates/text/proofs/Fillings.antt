@@ -84,7 +84,7 @@ number-waiting w n c nodes ws all e h f =
     let g : take d nodes ++ (x ∷ bare-nodes ws .1) ≡ all = ap (λ (y : ℕ × List Node). take d nodes ++ (numbered (node-at nodes d) (y .0) ∷ y .1)) (sym (bare-nodes-number w n ws e)) ∙ f .2 in
     let p : c - 1 ≡ d = omega (arith, f .1) in
     subst (λ (i : ℕ). take i (set nodes (c - 1) (numbered (node-at nodes (c - 1)) (n % 65536))) ++ bare-nodes ws .1 ≡ all) (sym (f .1))
-      (subst (λ (i : ℕ). take (d + 1) (set nodes i (numbered (node-at nodes i) (n % 65536))) ++ bare-nodes ws .1 ≡ all) (sym p) (plain-more d nodes x (bare-nodes ws .1) all (omega (arith, f .1)) g))
+    (subst (λ (i : ℕ). take (d + 1) (set nodes i (numbered (node-at nodes i) (n % 65536))) ++ bare-nodes ws .1 ≡ all) (sym p) (plain-more d nodes x (bare-nodes ws .1) all (omega (arith, f .1)) g))
 
 number-more : (u : Use) (w : Word) (n : ℕ) (a : Reader) (nodes : List Node) (ws : List Word) (all : List Node) → number-of w ≡ Some n → a .signs ≤ length nodes → Written-number (has-node u) (a .signs) nodes (w ∷ ws) all → Written-so-far (taken u n a) (cond (has-node u) (noted-number (Some n) (a .signs) nodes) nodes) ws all
 number-more Globals w n a nodes ws all q h f = number-plain w n (a .signs) nodes ws all q f
@@ -113,17 +113,20 @@ step-more w a b nodes ws all (takes u n q e r) h h2 f =
 step-more w a b nodes ws all (enters k t q e o r) h h2 f =
     let P : Need → Type 0 = λ m. Written-at m (a .signs) nodes (w ∷ ws) all → Written-so-far (moved (shape k .next) a t) (noted-at m (a .signs) w nodes) ws all in
     let p : P Owed = λ g.
-      (let g2 : take (a .signs) nodes ++ in-front (shape k .role) (numbered (bare k) (bare-nodes ws .0)) (bare-nodes ws .1) ≡ all = ap (λ j. take (a .signs) nodes ++ before-nodes j w (bare-nodes ws) .1) (sym e) ∙ g in
-       subst (λ (j : Option Kind). Written-so-far (moved (shape k .next) a t) (noted-kind j (a .signs) nodes) ws all) (sym e) (kind-more k (a .signs) nodes ws all (h q) g2 (not-program k a t o))) in
+    (let g2 : take (a .signs) nodes ++ in-front (shape k .role) (numbered (bare k) (bare-nodes ws .0)) (bare-nodes ws .1) ≡ all = ap (λ j. take (a .signs) nodes ++ before-nodes j w (bare-nodes ws) .1) (sym e) ∙ g in
+    subst (λ (j : Option Kind). Written-so-far (moved (shape k .next) a t) (noted-kind j (a .signs) nodes) ws all) (sym e) (kind-more k (a .signs) nodes ws all (h q) g2 (not-program k a t o))) in
     subst (λ (x : Reader). Written-so-far x (noted a w nodes) ws all) (sym r) (subst P (sym q) p f)
 
 -- where a step writes, there is a place
 pub placed : (w : Word) (a b : Reader) (nodes : List Node) (ws : List Word) (all : List Node) → Some b ≡ step w a → b .signs ≤ most-nodes → Written-so-far a nodes ws all → Placed a
 placed w a b nodes ws all e h f =
     let k : Grown a b = grown w a b e in
-    record { within = omega (arith, k .signs-up); owed = λ q. omega (arith, k .sign q);
-             some = λ u q p. (let g : Written-number (has-node u) (a .signs) nodes ws all = subst (λ (n : Need). Written-at n (a .signs) nodes ws all) q f in
-                              let g2 : Written-waiting (a .signs) nodes ws all = subst (λ (t : Bool). Written-number t (a .signs) nodes ws all) p g in omega (arith, g2 .1)) }
+    record {
+      within = omega (arith, k .signs-up);
+      owed = λ q. omega (arith, k .sign q);
+      some = λ u q p. (let g : Written-number (has-node u) (a .signs) nodes ws all = subst (λ (n : Need). Written-at n (a .signs) nodes ws all) q f in
+          let g2 : Written-waiting (a .signs) nodes ws all = subst (λ (t : Bool). Written-number t (a .signs) nodes ws all) p g in omega (arith, g2 .1));
+    }
 
 -- one word on, where the nodes are written
 pub filled-more : (rest w after : List ℕ) (a b : Reader) (nodes all : List Node) → Cut rest w after → Some b ≡ step w a → b .fits ≡ true → b .signs ≤ most-nodes → length nodes ≡ most-nodes → (a .fits ≡ true → a .signs ≤ most-nodes → Written-so-far a nodes (words rest) all) → Written-so-far b (noted a w nodes) (words after) all

@@ -12,3 +12,5 @@ pub mod Fillings
 pub mod Linking
 pub mod Rows
 pub mod Trees
+pub mod Tables
+pub mod Loading

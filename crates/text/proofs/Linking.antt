@@ -31,10 +31,10 @@ module _ (ends ends′ : List ℕ) (j : ℕ) (o : Ends ends) (same : (k : ℕ) �
 
   linked-same : (d : Node) → j < most-nodes → linked-node d j ends ≡ linked-node d j ends′
   linked-same d b =
-    let e1 : end-of ends (j + 1) ≡ end-of ends′ (j + 1) = same (j + 1) (omega arith) in
-    let u : j + 1 ≤ end-of ends (j + 1) = end-up ends (j + 1) o (omega arith) in
-    let e2 : end-of ends (end-of ends (j + 1)) ≡ end-of ends′ (end-of ends′ (j + 1)) = same (end-of ends (j + 1)) (omega arith) ∙ ap (end-of ends′) e1 in
-    ap (λ x. with-parts d (j + 1) x (end-of ends (end-of ends (j + 1)))) e1 ∙ ap (λ x. with-parts d (j + 1) (end-of ends′ (j + 1)) x) e2
+      let e1 : end-of ends (j + 1) ≡ end-of ends′ (j + 1) = same (j + 1) (omega arith) in
+      let u : j + 1 ≤ end-of ends (j + 1) = end-up ends (j + 1) o (omega arith) in
+      let e2 : end-of ends (end-of ends (j + 1)) ≡ end-of ends′ (end-of ends′ (j + 1)) = same (end-of ends (j + 1)) (omega arith) ∙ ap (end-of ends′) e1 in
+      ap (λ x. with-parts d (j + 1) x (end-of ends (end-of ends (j + 1)))) e1 ∙ ap (λ x. with-parts d (j + 1) (end-of ends′ (j + 1)) x) e2
 
   end-same : (d : Node) → j < most-nodes → node-end d j ends ≡ node-end d j ends′
   end-same d b = past-same (parts d) (j + 1) (omega arith) (omega arith)
@@ -63,7 +63,8 @@ ends-set ends i v o b lo hi =
       size = length-set ends i v ∙ o .size;
       last = getD-set-other ends i most-nodes v 0 (omega arith) ∙ o .last;
       after = λ k h. ⊎-elim (λ (e : k ≡ i). omega (arith, e, getD-set-same ends i v 0 l, ap (λ x. getD (set ends i v) x 0) e)) (λ (q : k ≡ i → ⊥). omega (arith, getD-set-other ends i k v 0 q, o .after k h)) (cases-eq k i);
-      within = λ k. ⊎-elim (λ (e : k ≡ i). omega (arith, e, getD-set-same ends i v 0 l, ap (λ x. getD (set ends i v) x 0) e)) (λ (q : k ≡ i → ⊥). omega (arith, getD-set-other ends i k v 0 q, o .within k)) (cases-eq k i) }
+      within = λ k. ⊎-elim (λ (e : k ≡ i). omega (arith, e, getD-set-same ends i v 0 l, ap (λ x. getD (set ends i v) x 0) e)) (λ (q : k ≡ i → ⊥). omega (arith, getD-set-other ends i k v 0 q, o .within k)) (cases-eq k i);
+    }
 
 -- node i gets its numbers
 pub half-more : (bare nodes : List Node) (ends : List ℕ) (i n : ℕ) (d : Node) (v : ℕ) → i < n → n ≤ most-nodes → length nodes ≡ most-nodes → d ≡ linked-node (node-at nodes i) i ends → v ≡ node-end (node-at nodes i) i ends → Half bare nodes ends (i + 1) n → Half bare (set nodes i d) (set ends i v) i n
@@ -78,18 +79,21 @@ half-more bare nodes ends i n d v b b2 len qd qv h =
       size = length-set nodes i d ∙ h .size;
       below = λ j p. getD-set-other nodes i j d (Num 0) (omega arith) ∙ h .below j (omega arith);
       above = λ j p q. ⊎-elim
-        (λ (e : j ≡ i). subst (λ (x : ℕ). Linked-at bare (set nodes i d) (set ends i v) x) (sym e)
-          (getD-set-same nodes i d (Num 0) (omega arith) ∙ qd ∙ ap (λ x. linked-node x i ends) er ∙ linked-same ends (set ends i v) i (h .ok) same r (omega arith),
-           getD-set-same ends i v 0 l ∙ qv ∙ ap (λ x. node-end x i ends) er ∙ end-same ends (set ends i v) i (h .ok) same r (omega arith)))
-        (λ (ne : j ≡ i → ⊥). at-same ends (set ends i v) j (h .ok) (λ k p2. same k (omega arith)) bare nodes (set nodes i d) (omega arith)
+          (λ (e : j ≡ i). subst (λ (x : ℕ). Linked-at bare (set nodes i d) (set ends i v) x) (sym e) (
+            getD-set-same nodes i d (Num 0) (omega arith) ∙ qd ∙ ap (λ x. linked-node x i ends) er ∙ linked-same ends (set ends i v) i (h .ok) same r (omega arith),
+            getD-set-same ends i v 0 l ∙ qv ∙ ap (λ x. node-end x i ends) er ∙ end-same ends (set ends i v) i (h .ok) same r (omega arith),
+          ))
+          (λ (ne : j ≡ i → ⊥). at-same ends (set ends i v) j (h .ok) (λ k p2. same k (omega arith)) bare nodes (set nodes i d) (omega arith)
           (getD-set-other nodes i j d (Num 0) ne) (getD-set-other ends i j v 0 ne) (h .above j (omega arith) q))
-        (cases-eq j i);
-      others = λ j p. getD-set-other nodes i j d (Num 0) (omega arith) ∙ h .others j p }
+          (cases-eq j i);
+      others = λ j p. getD-set-other nodes i j d (Num 0) (omega arith) ∙ h .others j p;
+    }
 
 -- at the start every node ends with the array
 pub ends-fill : (m : ℕ) → m ≡ most-nodes + 1 → Ends (replicate m most-nodes)
 ends-fill m e = record {
-    size = length-replicate {A = ℕ} m most-nodes ∙ e;
-    last = getD-replicate {A = ℕ} m most-nodes most-nodes 0 (omega arith);
-    after = λ k h. omega (arith, getD-replicate {A = ℕ} m k most-nodes 0 (omega arith));
-    within = λ k. ⊎-elim (λ (l : k < m). omega (arith, getD-replicate {A = ℕ} m k most-nodes 0 l)) (λ (l : m ≤ k). omega (arith, getD-past (replicate m most-nodes) k 0 (subst (λ x. x ≤ k) (sym (length-replicate {A = ℕ} m most-nodes)) l))) (cases-lt k m) }
+  size = length-replicate {A = ℕ} m most-nodes ∙ e;
+  last = getD-replicate {A = ℕ} m most-nodes most-nodes 0 (omega arith);
+  after = λ k h. omega (arith, getD-replicate {A = ℕ} m k most-nodes 0 (omega arith));
+  within = λ k. ⊎-elim (λ (l : k < m). omega (arith, getD-replicate {A = ℕ} m k most-nodes 0 l)) (λ (l : m ≤ k). omega (arith, getD-past (replicate m most-nodes) k 0 (subst (λ x. x ≤ k) (sym (length-replicate {A = ℕ} m most-nodes)) l))) (cases-lt k m);
+}

@@ -106,14 +106,14 @@ module _ (l g n : ℕ) (bl : l ≤ 65536) (bg : g ≤ 65536) (bn : n ≤ 65536) 
 
   two-exprs : (a b : Expr) → Row-expr a → Row-expr b → (ws : List (List ℕ)) → T (writable-expr a && writable-expr b) → fits-expr l g n a && fits-expr l g n b ≡ true → nodes-of ((write-expr a ++ write-expr b) ++ ws) ≡ (row-expr a ++ row-expr b) ++ nodes-of ws
   two-exprs a b ra rb ws h k =
-    let q = and-parts (fits-expr l g n a) (fits-expr l g n b) k in
-    ap nodes-of (append-assoc (write-expr a) (write-expr b) ws) ∙ ra (write-expr b ++ ws) (T-left (writable-expr a) (writable-expr b) h) (q .0) ∙ ap (λ x. row-expr a ++ x) (rb ws (T-right (writable-expr a) (writable-expr b) h) (q .1)) ∙ sym (append-assoc (row-expr a) (row-expr b) (nodes-of ws))
+      let q = and-parts (fits-expr l g n a) (fits-expr l g n b) k in
+      ap nodes-of (append-assoc (write-expr a) (write-expr b) ws) ∙ ra (write-expr b ++ ws) (T-left (writable-expr a) (writable-expr b) h) (q .0) ∙ ap (λ x. row-expr a ++ x) (rb ws (T-right (writable-expr a) (writable-expr b) h) (q .1)) ∙ sym (append-assoc (row-expr a) (row-expr b) (nodes-of ws))
 
   -- a kind, a number of its own, and an expression
   number-expr : (kd : Kind) (i m : ℕ) (e : Expr) (d : ℕ → Node) → Row-expr e → ((x : List Node) → kind-then kd (i, x) ≡ d i ∷ x) → (ws : List (List ℕ)) → T (writable i && writable-expr e) → m ≤ 65536 → ltb i m && fits-expr l g n e ≡ true → kind-then kd (bare-nodes (decimal i ∷ (write-expr e ++ ws))) ≡ (d i ∷ row-expr e) ++ nodes-of ws
   number-expr kd i m e d re mk ws h bm k =
-    let q = and-parts (ltb i m) (fits-expr l g n e) k in
-    ap (kind-then kd) (number-fits i (write-expr e ++ ws) (T-left (writable i) (writable-expr e) h) (omega (arith, ltb-true i m (q .0)))) ∙ mk (nodes-of (write-expr e ++ ws)) ∙ ap (λ x. d i ∷ x) (re ws (T-right (writable i) (writable-expr e) h) (q .1))
+      let q = and-parts (ltb i m) (fits-expr l g n e) k in
+      ap (kind-then kd) (number-fits i (write-expr e ++ ws) (T-left (writable i) (writable-expr e) h) (omega (arith, ltb-true i m (q .0)))) ∙ mk (nodes-of (write-expr e ++ ws)) ∙ ap (λ x. d i ∷ x) (re ws (T-right (writable i) (writable-expr e) h) (q .1))
 
   rows-expr : (e : Expr) → Row-expr e
   unfolding kind
@@ -130,8 +130,8 @@ module _ (l g n : ℕ) (bl : l ≤ 65536) (bg : g ≤ 65536) (bn : n ≤ 65536) 
 
   two-stmts : (a b : Stmt) → Row-stmt a → Row-stmt b → (ws : List (List ℕ)) → T (writable-stmt a && writable-stmt b) → fits-stmt l g n a && fits-stmt l g n b ≡ true → nodes-of ((write-stmt a ++ write-stmt b) ++ ws) ≡ (row-stmt a ++ row-stmt b) ++ nodes-of ws
   two-stmts a b ra rb ws h k =
-    let q = and-parts (fits-stmt l g n a) (fits-stmt l g n b) k in
-    ap nodes-of (append-assoc (write-stmt a) (write-stmt b) ws) ∙ ra (write-stmt b ++ ws) (T-left (writable-stmt a) (writable-stmt b) h) (q .0) ∙ ap (λ x. row-stmt a ++ x) (rb ws (T-right (writable-stmt a) (writable-stmt b) h) (q .1)) ∙ sym (append-assoc (row-stmt a) (row-stmt b) (nodes-of ws))
+      let q = and-parts (fits-stmt l g n a) (fits-stmt l g n b) k in
+      ap nodes-of (append-assoc (write-stmt a) (write-stmt b) ws) ∙ ra (write-stmt b ++ ws) (T-left (writable-stmt a) (writable-stmt b) h) (q .0) ∙ ap (λ x. row-stmt a ++ x) (rb ws (T-right (writable-stmt a) (writable-stmt b) h) (q .1)) ∙ sym (append-assoc (row-stmt a) (row-stmt b) (nodes-of ws))
 
   rows-stmt : (s : Stmt) → Row-stmt s
   unfolding kind
@@ -141,14 +141,14 @@ module _ (l g n : ℕ) (bl : l ≤ 65536) (bg : g ≤ 65536) (bn : n ≤ 65536) 
   rows-stmt (setglob i e) ws h k = number-expr K.SetGlob i g e (λ j. N.SetGlob j 0) (rows-expr e) (λ x. refl) ws h bg k
   rows-stmt (setcell a b) ws h k = ap (λ x. N.SetCell 0 0 ∷ x) (two-exprs a b (rows-expr a) (rows-expr b) ws h k)
   rows-stmt (if e a b) ws h k =
-    let q = and-parts (fits-expr l g n e) (fits-stmt l g n a && fits-stmt l g n b) k in
-    ap (λ x. N.If 0 0 0 ∷ x) (ap nodes-of (append-assoc (write-expr e) (write-stmt a ++ write-stmt b) ws)
+      let q = and-parts (fits-expr l g n e) (fits-stmt l g n a && fits-stmt l g n b) k in
+      ap (λ x. N.If 0 0 0 ∷ x) (ap nodes-of (append-assoc (write-expr e) (write-stmt a ++ write-stmt b) ws)
       ∙ rows-expr e ((write-stmt a ++ write-stmt b) ++ ws) (T-left (writable-expr e) (writable-stmt a && writable-stmt b) h) (q .0)
       ∙ ap (λ x. row-expr e ++ x) (two-stmts a b (rows-stmt a) (rows-stmt b) ws (T-right (writable-expr e) (writable-stmt a && writable-stmt b) h) (q .1))
       ∙ sym (append-assoc (row-expr e) (row-stmt a ++ row-stmt b) (nodes-of ws)))
   rows-stmt (while e a) ws h k =
-    let q = and-parts (fits-expr l g n e) (fits-stmt l g n a) k in
-    ap (λ x. N.While 0 0 ∷ x) (ap nodes-of (append-assoc (write-expr e) (write-stmt a) ws)
+      let q = and-parts (fits-expr l g n e) (fits-stmt l g n a) k in
+      ap (λ x. N.While 0 0 ∷ x) (ap nodes-of (append-assoc (write-expr e) (write-stmt a) ws)
       ∙ rows-expr e (write-stmt a ++ ws) (T-left (writable-expr e) (writable-stmt a) h) (q .0)
       ∙ ap (λ x. row-expr e ++ x) (rows-stmt a ws (T-right (writable-expr e) (writable-stmt a) h) (q .1))
       ∙ sym (append-assoc (row-expr e) (row-stmt a) (nodes-of ws)))

@@ -10,3 +10,4 @@ pub mod Bare
 pub mod Filling
 pub mod Links
 pub mod Table
+pub mod Loads

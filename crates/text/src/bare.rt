@@ -7,7 +7,6 @@ ghost use Rattle.text.specs.Filling.{Filled};
 ghost use Rattle.text.specs.Reading.{run, fresh};
 ghost use Rattle.text.specs.Text.{words};
 ghost use mathlib.Core.Path.{_≡_};
-
 use crate::cut::next_word;
 use crate::kinds::Kind;
 use crate::kinds::kind_of;

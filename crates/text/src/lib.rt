@@ -5,5 +5,7 @@ pub mod judge;
 mod kinds;
 pub mod limits;
 mod links;
+pub mod load;
 mod numbers;
 mod reader;
+mod table;

@@ -4,7 +4,6 @@ ghost use Prim.Native.Nat.{ℕ, _<_, _≤_};
 ghost use Rattle.text.specs.Links.{Ends, linked-node, node-end, Linked};
 ghost use mathlib.Core.List.{List};
 ghost use mathlib.Core.Path.{_≡_};
-
 use language::nodes::MOST_NODES;
 use language::nodes::Node;
 

@@ -25,18 +25,27 @@ loop-word-again-then-next-le-MOST-SIGNS c =
     let a = c .loop-word .reader in let b = c .in-Continue-next .next in let nodes = c .loop-word .nodes in let all = bare-nodes (words s) .1 in
     let cut : Cut rest w after = c .in-Some .ensures tt in
     let g : Grown a b = grown w a b (c .in-Continue-next .ensures tt) in
-    let p : Placed a = placed w a b nodes (words rest) all (c .in-Continue-next .ensures tt) (omega arith) (c .loop-word .inv .4 (g .fits (c .if-next .taken)) (omega arith)) in
-    (run-more s rest w after a b (c .loop-word .inv .0) cut (c .in-Continue-next .ensures tt), omega arith, omega arith, omega arith,
-     (λ h h2. subst (λ (ns : List Node). Written-so-far b ns (words after) all) (sym (c .note .ensures)) (filled-more rest w after a b nodes all cut (c .in-Continue-next .ensures tt) h h2 (c .loop-word .inv .5) (c .loop-word .inv .4))),
-     c .note .array-long,
-     subst (λ (ns : List Node). Same-from (b .signs) (c .args .nodes .now) ns) (sym (c .note .ensures)) (same-more w a b (c .args .nodes .now) nodes (c .in-Continue-next .ensures tt) p (c .loop-word .inv .6)))
+    let p : Placed a = placed w a b nodes (words rest) all (c .in-Continue-next .ensures tt) (omega arith) (c .loop-word .inv .4 (g .fits (c .if-next .taken)) (omega arith)) in (
+      run-more s rest w after a b (c .loop-word .inv .0) cut (c .in-Continue-next .ensures tt),
+      omega arith,
+      omega arith,
+      omega arith,
+      (λ h h2. subst (λ (ns : List Node). Written-so-far b ns (words after) all) (sym (c .note .ensures)) (filled-more rest w after a b nodes all cut (c .in-Continue-next .ensures tt) h h2 (c .loop-word .inv .5) (c .loop-word .inv .4))),
+      c .note .array-long,
+      subst (λ (ns : List Node). Same-from (b .signs) (c .args .nodes .now) ns) (sym (c .note .ensures)) (same-more w a b (c .args .nodes .now) nodes (c .in-Continue-next .ensures tt) p (c .loop-word .inv .6)),
+    )
 
 pub loop-word-again : need.loop-word-again
 loop-word-again c =
     let s = c .args .text .now in let rest = c .loop-word .rest .now in let w = c .in-Some .word .now in let after = c .in-Some .after .now in
     let a = c .loop-word .reader in let b = c .in-Continue-next .next in
     let cut : Cut rest w after = c .in-Some .ensures tt in
-    let g : Grown a b = grown w a b (c .in-Continue-next .ensures tt) in
-    (run-more s rest w after a b (c .loop-word .inv .0) cut (c .in-Continue-next .ensures tt), omega arith, omega arith, omega arith,
-     (λ h h2. let no : ⊥ = ⊎-elim (λ p. omega (arith, p .1)) (λ p. both-ways (b .fits) p h) (c .else-next .either) in absurd no),
-     c .loop-word .inv .5, same-on w a b (c .args .nodes .now) (c .loop-word .nodes) (c .in-Continue-next .ensures tt) (c .loop-word .inv .6))
+    let g : Grown a b = grown w a b (c .in-Continue-next .ensures tt) in (
+      run-more s rest w after a b (c .loop-word .inv .0) cut (c .in-Continue-next .ensures tt),
+      omega arith,
+      omega arith,
+      omega arith,
+      (λ h h2. let no : ⊥ = ⊎-elim (λ p. omega (arith, p .1)) (λ p. both-ways (b .fits) p h) (c .else-next .either) in absurd no),
+      c .loop-word .inv .5,
+      same-on w a b (c .args .nodes .now) (c .loop-word .nodes) (c .in-Continue-next .ensures tt) (c .loop-word .inv .6),
+    )

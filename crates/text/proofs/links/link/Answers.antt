@@ -14,8 +14,8 @@ pub loop-i-again : need.loop-i-again
 loop-i-again c =
     let i1 : c .loop-i .i ≡ c .loop-i .i - 1 + 1 = omega arith in
     half-more (c .args .nodes .now) (c .loop-i .nodes) (c .loop-i .ends) (c .loop-i .i - 1) (c .args .n) _ _ (omega arith) (c .pre) (c .loop-i .inv .size ∙ c .told-nodes)
-      (c .linked-node .ensures .0) (c .linked-node .ensures .1)
-      (subst (λ (i : ℕ). Half (c .args .nodes .now) (c .loop-i .nodes) (c .loop-i .ends) i (c .args .n)) i1 (c .loop-i .inv))
+    (c .linked-node .ensures .0) (c .linked-node .ensures .1)
+    (subst (λ (i : ℕ). Half (c .args .nodes .now) (c .loop-i .nodes) (c .loop-i .ends) i (c .args .n)) i1 (c .loop-i .inv))
 
 pub returns : need.returns
 returns c =
