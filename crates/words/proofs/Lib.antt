@@ -2,3 +2,5 @@
 pub mod Bits
 pub mod Lists
 pub mod Runs
+pub mod Slots
+pub mod Tests
