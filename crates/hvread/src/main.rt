@@ -24,8 +24,18 @@ fn sizes(text: &[u8]) -> Result<Sizes, Refused> {
 
 fn answer(rt: &LibcRuntime, text: &[u8]) -> io::Result<()> {
     match sizes(text) {
-        Ok(Sizes { globals, cells, procs, signs }) => {
-            println!(rt, "program: {globals} globals, {cells} cells, {procs} procedures, {signs} signs")
+        Ok(
+            Sizes {
+                globals,
+                cells,
+                procs,
+                signs,
+            },
+        ) => {
+            println!(
+                rt,
+                "program: {globals} globals, {cells} cells, {procs} procedures, {signs} signs"
+            )
         }
         Err(Refused::NoProgram) => refuse(rt, "no program"),
         Err(Refused::Limits) => refuse(rt, "limits"),
