@@ -129,11 +129,12 @@ placed w a b nodes ws all e h f =
     }
 
 -- one word on, where the nodes are written
-pub filled-more : (rest w after : List ℕ) (a b : Reader) (nodes all : List Node) → Cut rest w after → Some b ≡ step w a → b .fits ≡ true → b .signs ≤ most-nodes → length nodes ≡ most-nodes → (a .fits ≡ true → a .signs ≤ most-nodes → Written-so-far a nodes (words rest) all) → Written-so-far b (noted a w nodes) (words after) all
-filled-more rest w after a b nodes all cut e h h2 l f =
+pub filled-more : (rest w after : List ℕ) (a b : Reader) (nodes nodes′ all : List Node) → nodes′ ≡ noted a w nodes → Cut rest w after → Some b ≡ step w a → b .fits ≡ true → b .signs ≤ most-nodes → length nodes ≡ most-nodes → (a .fits ≡ true → a .signs ≤ most-nodes → Written-so-far a nodes (words rest) all) → Written-so-far b nodes′ (words after) all
+filled-more rest w after a b nodes nodes′ all q cut e h h2 l f =
     let k : Grown a b = grown w a b e in
     let g : Written-so-far a nodes (words rest) all = f (k .fits h) (omega (arith, k .signs-up)) in
-    step-more w a b nodes (words after) all (stepped w a b e) (λ q. omega (arith, k .sign q, l)) (omega (arith, k .signs-up, l)) (subst (λ (x : List Word). Written-so-far a nodes x all) (cut .text) g)
+    subst (λ (ns : List Node). Written-so-far b ns (words after) all) (sym q)
+    (step-more w a b nodes (words after) all (stepped w a b e) (λ o. omega (arith, k .sign o, l)) (omega (arith, k .signs-up, l)) (subst (λ (x : List Word). Written-so-far a nodes x all) (cut .text) g))
 
 -- A step writes nothing at or past the number of signs read after it.
 same-cond : (t : Bool) (c : ℕ) (before xs ys : List Node) → (t ≡ true → Same-from c before xs) → Same-from c before ys → Same-from c before (cond t xs ys)
@@ -153,8 +154,8 @@ same-noted Start a b w before nodes q p g f = λ j h. f j (omega (arith, g .sign
 same-noted (Number u) a b w before nodes q p g f = λ j h. same-cond (has-node u) (a .signs) before (noted-number (number-of w) (a .signs) nodes) nodes (λ t. same-number (number-of w) (a .signs) before nodes (p .some u q t) f) f j (omega (arith, g .signs-up))
 same-noted Owed a b w before nodes q p g f = λ j h. same-kind (kind w) (a .signs) before nodes f j (omega (arith, g .sign q))
 
-pub same-more : (w : Word) (a b : Reader) (before nodes : List Node) → Some b ≡ step w a → Placed a → Same-from (a .signs) before nodes → Same-from (b .signs) before (noted a w nodes)
-same-more w a b before nodes e p f = same-noted (a .need) a b w before nodes refl p (grown w a b e) f
+pub same-more : (w : Word) (a b : Reader) (before nodes nodes′ : List Node) → nodes′ ≡ noted a w nodes → Some b ≡ step w a → Placed a → Same-from (a .signs) before nodes → Same-from (b .signs) before nodes′
+same-more w a b before nodes nodes′ q e p f = subst (Same-from (b .signs) before) (sym q) (same-noted (a .need) a b w before nodes refl p (grown w a b e) f)
 
 pub same-on : (w : Word) (a b : Reader) (before nodes : List Node) → Some b ≡ step w a → Same-from (a .signs) before nodes → Same-from (b .signs) before nodes
 same-on w a b before nodes e f = λ j h. f j (omega (arith, grown w a b e .signs-up))

@@ -13,7 +13,7 @@ use Rattle.text.specs.declared.reader.Reader.{Reader}
 use Rattle.text.specs.declared.judge.Verdict.{Verdict}
 use Rattle.text.specs.declared.judge.Verdict.the-variants as V
 use Rattle.text.specs.Text.{words, write-program, Reads, fits, most-signs}
-use Rattle.text.specs.Verdicts.{Judged, Judged-once}
+use Rattle.text.specs.Verdicts.{Judged, Verdict-is}
 use Rattle.text.specs.Reading.{run, fresh, done}
 use Rattle.text.proofs.Decode.{one-program}
 use Rattle.text.proofs.Written.{Knows, owing, read-program}
@@ -54,7 +54,7 @@ judged-program s a e d f = let p = program-read s a e d in (p .0, p .1, true-T (
 apart : {X : Type 0} (s : List ℕ) (g h : Program) → Reads s g → Reads s h → fits g ≡ false → T (fits h) → X
 apart s g h r q f t = absurd (both-ways (fits h) (ap fits (sym (one-program s g h r q)) ∙ f) (T-true (fits h) t))
 
-pub judged-once : Judged-once
+judged-once : (s : List ℕ) (u v : Verdict) → Judged s u → Judged s v → u ≡ v
 judged-once s V.NoProgram V.NoProgram a b = refl
 judged-once s V.NoProgram V.Limits a b = absurd (a (b .0) (b .1))
 judged-once s V.NoProgram V.Program a b = absurd (a (b .0) (b .1))
@@ -64,3 +64,7 @@ judged-once s V.Limits V.Program a b = apart s (a .0) (b .0) (a .1) (b .1) (a .2
 judged-once s V.Program V.NoProgram a b = absurd (b (a .0) (a .1))
 judged-once s V.Program V.Limits a b = apart s (b .0) (a .0) (b .1) (a .1) (b .2) (a .2)
 judged-once s V.Program V.Program a b = refl
+
+-- a verdict that is right is the only one
+pub the-verdict : (s : List ℕ) (r : Verdict) → Judged s r → Verdict-is s r
+the-verdict s r j = record { right = j; only = λ v h. judged-once s v r h j }

@@ -109,15 +109,22 @@ not-owed u n p q = let z : _≡_ {A = ℕ} 0 1 = cc in let no : ⊥ = omega arit
 not-start : {X : Type 0} (n : Need) → n ≡ Start → n ≡ Owed → X
 not-start n p q = let z : _≡_ {A = ℕ} 0 1 = cc in let no : ⊥ = omega arith in absurd no
 
-grown-taken : (u : Use) (n : ℕ) (a : Reader) → a .need ≡ Number u → Grown a (taken u n a)
-grown-taken Globals n a q = record { exprs = omega arith; stmts = omega arith; signs = omega arith; signs-up = omega arith; sign = λ p. not-owed Globals (a .need) q p; fits = λ h. and-parts (a .fits) _ h .0 }
-grown-taken Cells n a q = record { exprs = omega arith; stmts = omega arith; signs = omega arith; signs-up = omega arith; sign = λ p. not-owed Cells (a .need) q p; fits = λ h. and-parts (a .fits) _ h .0 }
-grown-taken Procs n a q = record { exprs = omega arith; stmts = omega arith; signs = omega arith; signs-up = omega arith; sign = λ p. not-owed Procs (a .need) q p; fits = λ h. and-parts (a .fits) _ h .0 }
-grown-taken Locals n a q = record { exprs = omega arith; stmts = omega arith; signs = omega arith; signs-up = omega arith; sign = λ p. not-owed Locals (a .need) q p; fits = λ h. and-parts (a .fits) _ h .0 }
-grown-taken Value n a q = record { exprs = omega arith; stmts = omega arith; signs = omega arith; signs-up = omega arith; sign = λ p. not-owed Value (a .need) q p; fits = λ h. and-parts (a .fits) _ h .0 }
-grown-taken Local n a q = record { exprs = omega arith; stmts = omega arith; signs = omega arith; signs-up = omega arith; sign = λ p. not-owed Local (a .need) q p; fits = λ h. and-parts (a .fits) _ h .0 }
-grown-taken Global n a q = record { exprs = omega arith; stmts = omega arith; signs = omega arith; signs-up = omega arith; sign = λ p. not-owed Global (a .need) q p; fits = λ h. and-parts (a .fits) _ h .0 }
-grown-taken Callee n a q = record { exprs = omega arith; stmts = omega arith; signs = omega arith; signs-up = omega arith; sign = λ p. not-owed Callee (a .need) q p; fits = λ h. and-parts (a .fits) _ h .0 }
+-- a number adds nothing to the counters
+record Kept (a b : Reader) : Type 0 where
+  exprs : b .exprs ≤ a .exprs
+  stmts : b .stmts ≤ a .stmts
+  signs : b .signs ≡ a .signs
+  fits : b .fits ≡ true → a .fits ≡ true
+
+taken-keeps : (u : Use) (n : ℕ) (a : Reader) → Kept a (taken u n a)
+taken-keeps Globals n a = record { exprs = omega arith; stmts = omega arith; signs = refl; fits = λ h. and-parts (a .fits) _ h .0 }
+taken-keeps Cells n a = record { exprs = omega arith; stmts = omega arith; signs = refl; fits = λ h. and-parts (a .fits) _ h .0 }
+taken-keeps Procs n a = record { exprs = omega arith; stmts = omega arith; signs = refl; fits = λ h. and-parts (a .fits) _ h .0 }
+taken-keeps Locals n a = record { exprs = omega arith; stmts = omega arith; signs = refl; fits = λ h. and-parts (a .fits) _ h .0 }
+taken-keeps Value n a = record { exprs = omega arith; stmts = omega arith; signs = refl; fits = λ h. and-parts (a .fits) _ h .0 }
+taken-keeps Local n a = record { exprs = omega arith; stmts = omega arith; signs = refl; fits = λ h. and-parts (a .fits) _ h .0 }
+taken-keeps Global n a = record { exprs = omega arith; stmts = omega arith; signs = refl; fits = λ h. and-parts (a .fits) _ h .0 }
+taken-keeps Callee n a = record { exprs = omega arith; stmts = omega arith; signs = refl; fits = λ h. and-parts (a .fits) _ h .0 }
 
 owed-grows : (r : Role) (e s k m p : ℕ) (t : ℕ × ℕ × ℕ) → e ≤ 2 → s ≤ 2 → owed-after r e s k m p ≡ Some t → (t .0 ≤ k + 2) × (t .1 ≤ m + 2)
 owed-grows R.Expression e s zero m p t he hs q = not-nothing t (sym q)
@@ -157,7 +164,7 @@ few K.Proc = omega arith
 
 grown-by : (w : List ℕ) (a b : Reader) → Stepped w a b → Grown a b
 grown-by w a b (starts q e r) = subst (Grown a) (sym r) (record { exprs = omega arith; stmts = omega arith; signs = omega arith; signs-up = omega arith; sign = λ p. not-start (a .need) q p; fits = λ h. h })
-grown-by w a b (takes u n q e r) = subst (Grown a) (sym r) (grown-taken u n a q)
+grown-by w a b (takes u n q e r) = let k = taken-keeps u n a in subst (Grown a) (sym r) (record { exprs = omega (arith, k .exprs); stmts = omega (arith, k .stmts); signs = omega (arith, k .signs); signs-up = omega (arith, k .signs); sign = λ p. not-owed u (a .need) q p; fits = k .fits })
 grown-by w a b (enters k t q e f r) =
     let g = owed-grows (shape k .role) (shape k .exprs) (shape k .stmts) (a .exprs) (a .stmts) (a .procs) t (few k .0) (few k .1) f in
     subst (Grown a) (sym r) (record { exprs = g .0; stmts = g .1; signs = omega arith; signs-up = omega arith; sign = λ p. refl; fits = λ h. h })

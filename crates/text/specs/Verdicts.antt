@@ -1,4 +1,4 @@
--- What a verdict says of a text, and that only one can be right.
+-- What a verdict says of a text.
 use mathlib.Core.Path.{_≡_}
 use mathlib.Core.Bool.{false}
 use mathlib.Core.List.{List}
@@ -15,6 +15,7 @@ Judged s V.NoProgram = (g : Program) → Reads s g → ⊥
 Judged s V.Limits = (g : Program) × Reads s g × (fits g ≡ false)
 Judged s V.Program = (g : Program) × Reads s g × T (fits g)
 
--- at most one verdict is right
-abbrev pub Judged-once : Type 0
-Judged-once = (s : List ℕ) (u v : Verdict) → Judged s u → Judged s v → u ≡ v
+-- the verdict r on the text s is right, and no other is
+pub record Verdict-is (s : List ℕ) (r : Verdict) : Type 0 where
+  pub right : Judged s r
+  pub only : (v : Verdict) → Judged s v → v ≡ r

@@ -1,7 +1,5 @@
 // The first of two passes from words to nodes: as a text is read, each word that counts as a sign puts a node of its kind
 // behind those before it, and the number after it goes into that node. The nodes are bare: their parts have no numbers yet.
-ghost use Prim.Native.Nat.{ℕ, _≤_};
-ghost use Rattle.language.specs.Nodes.{node-at};
 ghost use Rattle.text.specs.Bare.{bare, numbered, has-node, noted, Placed};
 ghost use Rattle.text.specs.Filling.{Filled};
 ghost use Rattle.text.specs.Reading.{run, fresh};
@@ -11,6 +9,7 @@ use crate::cut::next_word;
 use crate::kinds::Kind;
 use crate::kinds::kind_of;
 use crate::limits::MOST_SIGNS;
+use crate::limits::WORDS;
 use crate::numbers::number;
 use crate::reader::Need;
 use crate::reader::Reader;
@@ -86,7 +85,7 @@ fn note(nodes: &mut [Node; MOST_NODES], a: Reader, w: &[u8])
                 if let Some(n) = number(w) {
                     let at = a.signs - 1;
                     let node = nodes[at];
-                    nodes[at] = with_number(node, (n % 65536) as u16);
+                    nodes[at] = with_number(node, (n as usize % WORDS) as u16);
                 }
             }
         }

@@ -1,5 +1,5 @@
 // What a text is: no program, a program outside the limits, or a program within them.
-ghost use Rattle.text.specs.Verdicts.{Judged, Judged-once};
+ghost use Rattle.text.specs.Verdicts.{Verdict-is};
 ghost use Rattle.text.specs.Text.{One-program};
 use crate::cut::next_word;
 use crate::limits::MOST_SIGNS;
@@ -12,9 +12,9 @@ pub enum Verdict {
     Program,
 }
 
-// The verdict on a text.
+// The verdict on a text: it is right, and no other is.
 pub fn judge(text: &[u8]) -> Verdict
-    ensures { λ r. ⌜ Judged (now (text .entry)) r ⌝ }
+    ensures { λ r. ⌜ Verdict-is (now (text .entry)) r ⌝ }
 {
     let mut reader = Reader::new();
     let mut rest = text;
@@ -38,13 +38,6 @@ pub fn judge(text: &[u8]) -> Verdict
 // One text is the writing of at most one program.
 pub fn one_program() -> u8
     ensures { λ _. ⌜ One-program ⌝ }
-{
-    0
-}
-
-// At most one verdict is right of a text.
-pub fn one_verdict() -> u8
-    ensures { λ _. ⌜ Judged-once ⌝ }
 {
     0
 }

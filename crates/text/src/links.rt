@@ -1,15 +1,21 @@
 // The second pass: from the last node to the first, each gets the numbers of its parts. The first part stands right after
 // its node, and every other where the part before it ends, which is known by then.
 ghost use Prim.Native.Nat.{ℕ, _<_, _≤_};
+ghost use Rattle.language.specs.Nodes.{most-nodes};
 ghost use Rattle.text.specs.Links.{Ends, linked-node, node-end, Linked};
 ghost use mathlib.Core.List.{List};
 ghost use mathlib.Core.Path.{_≡_};
 use language::nodes::MOST_NODES;
 use language::nodes::Node;
 
+// Where each node ends; one more than there are nodes, so that a part past the last is found too, at LAST.
+const ENDS: usize = 2001;
+
+const LAST: u16 = 2000;
+
 // A node at i with the numbers of its parts, and the number after its last part, where `ends` has those of later nodes.
-fn linked(node: Node, i: u16, ends: &[u16; 2001]) -> (Node, u16)
-    requires { ⌜ i < 2000 ⌝ ∗ ⌜ Ends (now ends) ⌝ }
+fn linked(node: Node, i: u16, ends: &[u16; ENDS]) -> (Node, u16)
+    requires { ⌜ i < most-nodes ⌝ ∗ ⌜ Ends (now ends) ⌝ }
     ensures { λ r. ⌜ (r .0 ≡ linked-node node i (now (ends .entry))) × (r .1 ≡ node-end node i (now (ends .entry))) ⌝ }
 {
     let first = i + 1;
@@ -37,10 +43,10 @@ fn linked(node: Node, i: u16, ends: &[u16; 2001]) -> (Node, u16)
 
 // The first n nodes get the numbers of their parts; the others stay.
 pub(crate) fn link(nodes: &mut [Node; MOST_NODES], n: u16)
-    requires { ⌜ n ≤ 2000 ⌝ }
+    requires { ⌜ n ≤ most-nodes ⌝ }
     ensures { λ _. ⌜ ((ends : List ℕ) × Linked (now (nodes .entry)) (now (nodes .exit)) ends n) ⌝ }
 {
-    let mut ends = [2000u16; 2001];
+    let mut ends = [LAST; ENDS];
     for i in (0..n).rev() {
         let (node, end) = linked(nodes[i as usize], i, &ends);
         nodes[i as usize] = node;

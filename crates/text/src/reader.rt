@@ -138,44 +138,32 @@ impl Reader {
         ensures { λ r. ⌜ r ≡ enter (shape k) self ⌝ }
     {
         let s = shape_of(k);
+        let next = Reader {
+            need: s.next,
+            signs: self.signs + 1,
+            ..self
+        };
         match s.role {
-            Role::Expression => {
-                if self.exprs == 0 {
-                    return None;
-                }
+            Role::Expression if self.exprs > 0 => Some(Reader {
+                exprs: self.exprs - 1 + s.exprs,
+                ..next
+            }),
+            Role::Statement if self.exprs == 0 && self.stmts > 0 => {
                 Some(Reader {
-                    need: s.next,
-                    exprs: self.exprs - 1 + s.exprs,
-                    signs: self.signs + 1,
-                    ..self
-                })
-            }
-            Role::Statement => {
-                if self.exprs > 0 || self.stmts == 0 {
-                    return None;
-                }
-                Some(Reader {
-                    need: s.next,
                     exprs: s.exprs,
                     stmts: self.stmts - 1 + s.stmts,
-                    signs: self.signs + 1,
-                    ..self
+                    ..next
                 })
             }
-            Role::Procedure => {
-                if self.exprs > 0 || self.stmts > 0 || self.procs == 0 {
-                    return None;
-                }
+            Role::Procedure if self.exprs == 0 && self.stmts == 0 && self.procs > 0 => {
                 Some(Reader {
-                    need: s.next,
                     exprs: 0,
                     stmts: 1,
                     procs: self.procs - 1,
-                    signs: self.signs + 1,
-                    ..self
+                    ..next
                 })
             }
-            Role::Program => None,
+            _ => None,
         }
     }
 
@@ -188,29 +176,23 @@ impl Reader {
             Use::Globals => Reader {
                 need: Need::Number(Use::Cells),
                 globals: n,
-                fits: self.fits && n <= MOST_GLOBALS,
-                ..self
+                ..self.judged(n <= MOST_GLOBALS)
             },
             Use::Cells => Reader {
                 need: Need::Number(Use::Procs),
                 cells: n,
-                fits: self.fits && n <= MOST_CELLS,
-                ..self
+                ..self.judged(n <= MOST_CELLS)
             },
             Use::Procs => Reader {
-                need: Need::Owed,
                 exprs: 0,
                 stmts: 0,
                 procs: n,
                 count: n,
-                fits: self.fits && (1 <= n && n <= MOST_PROCS),
-                ..self
+                ..self.judged(1 <= n && n <= MOST_PROCS)
             },
             Use::Locals => Reader {
-                need: Need::Owed,
                 locals: 1 + n,
-                fits: self.fits && n <= MOST_LOCALS,
-                ..self
+                ..self.judged(n <= MOST_LOCALS)
             },
             Use::Value => self.judged(n < WORDS),
             Use::Local => self.judged(n < self.locals),
@@ -219,7 +201,7 @@ impl Reader {
         }
     }
 
-    // A number that nothing but the limits depends on.
+    // A number that is within the limits or not; what is owed comes next.
     fn judged(self, ok: bool) -> Reader
         ensures { λ r. ⌜ r ≡ judged self ok ⌝ }
     {

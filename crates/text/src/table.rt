@@ -2,6 +2,7 @@
 ghost use Prim.Native.Nat.{ℕ, _≤_};
 ghost use Rattle.language.specs.Language.{Proc};
 ghost use Rattle.language.specs.Nodes.{Holds};
+ghost use Rattle.text.specs.Text.{most-procs};
 ghost use Rattle.text.specs.Table.{Procs-at, Same-entries};
 ghost use lib.ListN.{length};
 ghost use mathlib.Core.List.{List};
@@ -17,7 +18,7 @@ pub(crate) fn tabulate(
     table: &mut [Procedure; MOST_PROCEDURES],
     count: usize,
 )
-    requires few { ⌜ count ≤ 256 ⌝ }
+    requires few { ⌜ count ≤ most-procs ⌝ }
     requires stand { ⌜ ((ps : List Proc) × (length ps ≡ count) × Procs-at (now nodes) 0 ps) ⌝ }
     ensures holds { λ _. ⌜ ((ps : List Proc) → length ps ≡ count → Procs-at (now (nodes .entry)) 0 ps → Holds (now (nodes .entry)) (now (table .exit)) ps) ⌝ }
     ensures others { λ _. ⌜ Same-entries count (now (table .entry)) (now (table .exit)) ⌝ }

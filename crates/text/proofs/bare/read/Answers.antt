@@ -1,14 +1,10 @@
-use mathlib.Core.Path.{_≡_, sym, subst}
-use mathlib.Core.List.{List}
 use mathlib.Core.Logic.{⊎-elim}
-use Prim.Native.Nat.{ℕ}
 use native.Mathlib.Omega.{arith}
 use Rattle.std.proofs.shelf.Tests.{both-ways}
-use Rattle.language.specs.declared.nodes.Node.{Node}
 use Rattle.text.specs.Cut.{Cut}
 use Rattle.text.specs.Text.{words}
 use Rattle.text.specs.Bare.{Placed}
-use Rattle.text.specs.Filling.{Written-so-far, bare-nodes, Same-from}
+use Rattle.text.specs.Filling.{bare-nodes}
 use Rattle.text.proofs.Steps.{Grown, grown, run-more}
 use Rattle.text.proofs.Fillings.{placed, filled-more, same-more, same-on}
 use Rattle.text.proofs.bare.read.Needs as need
@@ -30,9 +26,9 @@ loop-word-again-then-next-le-MOST-SIGNS c =
       omega arith,
       omega arith,
       omega arith,
-      (λ h h2. subst (λ (ns : List Node). Written-so-far b ns (words after) all) (sym (c .note .ensures)) (filled-more rest w after a b nodes all cut (c .in-Continue-next .ensures tt) h h2 (c .loop-word .inv .5) (c .loop-word .inv .4))),
+      (λ h h2. filled-more rest w after a b nodes (c .note .last .nodes) all (c .note .ensures) cut (c .in-Continue-next .ensures tt) h h2 (c .loop-word .inv .5) (c .loop-word .inv .4)),
       c .note .array-long,
-      subst (λ (ns : List Node). Same-from (b .signs) (c .args .nodes .now) ns) (sym (c .note .ensures)) (same-more w a b (c .args .nodes .now) nodes (c .in-Continue-next .ensures tt) p (c .loop-word .inv .6)),
+      same-more w a b (c .args .nodes .now) nodes (c .note .last .nodes) (c .note .ensures) (c .in-Continue-next .ensures tt) p (c .loop-word .inv .6),
     )
 
 pub loop-word-again : need.loop-word-again

@@ -4,6 +4,7 @@ use mathlib.Core.Logic.{⊎-elim}
 use native.Mathlib.Omega.{arith}
 use lib.Dec.{leb}
 use Rattle.std.proofs.shelf.Tests.{and-left, and-right, lt-leb}
+use Rattle.text.specs.Text.{most-signs}
 use Rattle.text.proofs.Judging.{judged-stuck, judged-undone, judged-limits}
 use Rattle.text.proofs.Loading.{Stands, stands}
 use Rattle.text.proofs.load.load.Needs as need
@@ -17,7 +18,7 @@ returns-then-not-is-done c = (judged-undone (c .args .text .now) (c .in-Some .re
 pub returns-then-not-reader : need.returns-then-not-reader
 returns-then-not-reader c =
     let a = c .in-Some .reader in
-    let no : a .fits && leb (a .signs) 2000 ≡ false = ⊎-elim (λ h. and-left (a .fits) (leb (a .signs) 2000) h) (λ h. and-right (a .fits) (leb (a .signs) 2000) (lt-leb (a .signs) 2000 (h .1))) (c .then-not-reader .either) in
+    let no : a .fits && leb (a .signs) most-signs ≡ false = ⊎-elim (λ h. and-left (a .fits) (leb (a .signs) most-signs) h) (λ h. and-right (a .fits) (leb (a .signs) most-signs) (lt-leb (a .signs) most-signs (h .1))) (c .then-not-reader .either) in
     (judged-limits (c .args .text .now) a (c .in-Some .ensures tt .reads) (sym (c .if-not-is-done .ensures tt)) no, refl)
 
 pub tabulate-requires : need.tabulate-requires

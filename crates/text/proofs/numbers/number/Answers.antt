@@ -13,8 +13,8 @@ returns-then-c-lt48 c = sym (no-number-letter (c .args .w .now) (c .loop-i .i) (
 pub returns-then-n-eq0 : need.returns-then-n-eq0
 returns-then-n-eq0 c = sym (no-number-zero (c .args .w .now) (c .loop-i .i) (c .loop-i .n) (c .loop-i-test .taken) (omega arith) (omega arith) (c .loop-i .inv))
 
-pub returns-then-n-gt9999 : need.returns-then-n-gt9999
-returns-then-n-gt9999 c = sym (no-number-long (c .args .w .now) (c .loop-i .i) (c .loop-i .n) (c .loop-i-test .taken) (omega arith) (c .loop-i .inv))
+pub returns-then-n-gt-FOUR-DIGITS : need.returns-then-n-gt-FOUR-DIGITS
+returns-then-n-gt-FOUR-DIGITS c = sym (no-number-long (c .args .w .now) (c .loop-i .i) (c .loop-i .n) (c .loop-i-test .taken) (omega arith) (c .loop-i .inv))
 
 pub loop-i-again : need.loop-i-again
 loop-i-again c = number-more (c .args .w .now) (c .loop-i .i) (c .loop-i .n) (c .loop-i-test .taken) (omega arith) (omega arith) (λ h. omega arith) (omega arith) (c .loop-i .inv)
