@@ -67,8 +67,9 @@ arrived n Q v t m q = record { count = 0; top = no-steps m; good = q }
 pub has-ended : (n : ℕ) (Q : ℕ → State → Machine → Type 0) (how : ℕ) (t : State) (m : Machine) → seen-machine m ≡ seen-outcome (ends how t) → 0 < how → Does n Q (ends how t) m
 has-ended n Q how t m e h = record { count = 0; top = no-steps m; good = (e, h) }
 
-pub is-spent : (Q : ℕ → State → Machine → Type 0) (t : State) (m : Machine) → seen-machine m ≡ seen-outcome (spent t) → Does 0 Q (spent t) m
-is-spent Q t m e = record { count = 0; top = no-steps m; good = (e, omega arith) }
+-- with no fuel no step is asked for
+pub is-spent : (t : State) (m : Machine) → seen-machine m ≡ seen-outcome (spent t) → Comes-to (λ k x. (seen-machine x ≡ seen-outcome (spent t)) × (0 ≤ k)) m
+is-spent t m e = record { count = 0; top = no-steps m; good = (e, omega arith) }
 
 -- a part of a run and then another
 pub does-bind : (n : ℕ) (P Q : ℕ → State → Machine → Type 0) (o : Outcome) (next : ℕ → State → Outcome) (m : Machine) →

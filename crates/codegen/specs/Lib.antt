@@ -4,3 +4,4 @@ pub mod Instructions
 pub mod Codegen
 pub mod Top
 pub mod Heart
+pub mod Promise
