@@ -7,10 +7,10 @@ use Prim.Native.Nat.{ℕ, zero, suc, _+_, _*_}
 use native.Mathlib.Omega.{arith}
 use lib.ListN.{length, getD}
 use Rattle.words.specs.Words.{bit, value, shifted}
-use Rattle.circuit.specs.Parts.{Gates, after, mux-gates, mux-results}
+use Rattle.circuit.specs.Parts.{Gates, after, paired, inverter-gates, inverter-results, mux-gates, mux-results}
 use Rattle.circuit.specs.PartsRegisters.{level-gates, level-results, read-gates, read-results, first-word}
 use Rattle.circuit.proofs.Settling.{Obeys, obeys-both}
-use Rattle.circuit.proofs.Words.{chooses, mux-length}
+use Rattle.circuit.proofs.Words.{inverts-one, chooses, mux-length}
 
 -- words all of one width; lines with their inverses; the levels of lines and of words
 abbrev pub Wide : ℕ → List (List ℕ) → Type 0
@@ -32,6 +32,12 @@ file-levels f (x ∷ xs) = map f x ∷ file-levels f xs
 pub file-length : (f : ℕ → Bool) (ws : List (List ℕ)) → length (file-levels f ws) ≡ length ws
 file-length f [] = refl
 file-length f (x ∷ ws) = ap suc (file-length f ws)
+
+-- lines with the inverters that are fed by them
+pub paired-inverses : (f : ℕ → Bool) (n : ℕ) (xs ys : List ℕ) → Obeys f n (inverter-gates n (xs ++ ys)) → Inverses f (paired xs (inverter-results n (xs ++ ys)))
+unfolding inverter-gates inverter-results
+paired-inverses f n [] ys q = tt
+paired-inverses f n (x ∷ xs) ys q = (inverts-one f n x (q .0), paired-inverses f (suc n) xs ys (q .1))
 
 -- a level leaves one of each two words
 abbrev halved : Bool → List (List Bool) → List (List Bool)

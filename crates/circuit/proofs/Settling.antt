@@ -11,7 +11,7 @@ use lib.Dec.{ltb}
 use Rattle.std.proofs.shelf.Tests.{and-parts, ltb-true, lt-ltb}
 use Rattle.words.specs.Words.{nand, bit-at}
 use Rattle.circuit.specs.Circuit.{settle, Sound-gates, All-below}
-use Rattle.circuit.specs.Parts.{Gates, after}
+use Rattle.circuit.specs.Parts.{Gates, after, join}
 
 -- the levels f obey the gates, of which the first is signal n
 abbrev pub Obeys : (ℕ → Bool) → ℕ → Gates → Type 0
@@ -67,10 +67,6 @@ settle-obeys (g ∷ gs) v s =
     (rw (k (g .0) (s .0), k (g .1) (s .1)) here, rw e at ih)
 
 -- a drawing in stages
-abbrev pub join : List Gates → Gates
-join [] = []
-join (g ∷ gs) = g ++ join gs
-
 abbrev pub Obeys-each : (ℕ → Bool) → ℕ → List Gates → Type 0
 Obeys-each f n [] = Unit {0}
 Obeys-each f n (g ∷ gs) = Obeys f n g × Obeys-each f (after n g) gs

@@ -12,6 +12,17 @@ abbrev pub after : ℕ → Gates → ℕ
 after n [] = n
 after n (g ∷ gs) = after (suc n) gs
 
+-- gates of several parts one behind the other
+abbrev pub join : List Gates → Gates
+join [] = []
+join (g ∷ gs) = g ++ join gs
+
+-- lines with their inverses
+abbrev pub paired : List ℕ → List ℕ → List (ℕ × ℕ)
+paired [] ys = []
+paired (x ∷ xs) [] = []
+paired (x ∷ xs) (y ∷ ys) = (x, y) ∷ paired xs ys
+
 -- signals counted on from n
 abbrev pub plus2 : ℕ → ℕ
 plus2 n = suc (suc n)

@@ -2,3 +2,4 @@
 pub mod Bits
 pub mod Lists
 pub mod Runs
+pub mod Low

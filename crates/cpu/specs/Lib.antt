@@ -1,0 +1,5 @@
+-- The drawing of the instruction machine.
+pub mod Signals
+pub mod Control
+pub mod Stages
+pub mod Cpu
