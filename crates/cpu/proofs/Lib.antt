@@ -8,3 +8,6 @@ pub mod Phases
 pub mod Execute
 pub mod Simulation
 pub mod IsMachine
+pub mod Inking
+pub mod Loops
+pub mod PortLoops

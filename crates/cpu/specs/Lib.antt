@@ -3,3 +3,4 @@ pub mod Signals
 pub mod Control
 pub mod Stages
 pub mod Cpu
+pub mod Ink

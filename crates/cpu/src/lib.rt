@@ -1,4 +1,7 @@
 // The drawing of the instruction machine: what it is stands in specs/, that it is the machine in proofs/.
+mod parts;
+mod ports;
+
 ghost use Rattle.drawing.specs.Drawing.{Is-machine, course-cycles};
 ghost use Rattle.cpu.specs.Cpu.{cpu};
 
