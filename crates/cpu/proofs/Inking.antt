@@ -82,10 +82,20 @@ drew-both w at xs w1 n ys w2 d e f =
     let m : n + length ys ≡ at + length (xs ++ ys) = omega (arith, length-append xs ys, e) in
     begun-all w at (xs ++ ys) w2 (n + length ys) [] q refl m
 
--- a part drawn behind what stands already at the front
-pub drew-behind : (w xs w1 : List ℕ) (n : ℕ) (ys y2 : List ℕ) → Drew w 0 xs w1 → length xs ≡ n → n ≤ length w1 → Drew (take (length w1 - n) (drop n w1)) 0 ys y2 → Drew w 0 (xs ++ ys) (putMid n (length w1 - n) w1 y2)
-drew-behind w xs w1 n ys y2 d e l f =
+-- what was drawn at the front is no longer than the sheet
+take-short : (n : ℕ) (xs : List ℕ) → length (take n xs) ≤ length xs
+take-short zero xs = omega arith
+take-short (suc n) [] = omega arith
+take-short (suc n) (x ∷ xs) = let ih = take-short n xs in omega arith
+
+drew-fits : (w xs w1 : List ℕ) → Drew w 0 xs w1 → length xs ≤ length w1
+drew-fits w xs w1 d = let e = ap length (d .put) in let s = take-short (0 + length xs) w1 in omega arith
+
+-- numbers drawn behind what stands already at the front
+pub drew-behind : (w xs w1 : List ℕ) (n : ℕ) (ys y2 : List ℕ) → Drew w 0 xs w1 → length xs ≡ n → Drew (take (length w1 - n) (drop n w1)) 0 ys y2 → Drew w 0 (xs ++ ys) (putMid n (length w1 - n) w1 y2)
+drew-behind w xs w1 n ys y2 d e f =
     let z : 0 + length xs ≡ n = omega arith in
+    let l : n ≤ length w1 = omega (arith, drew-fits w xs w1 d) in
     drew-both w 0 xs w1 n ys (putMid n (length w1 - n) w1 y2) d z (drew-part w1 n ys y2 l f)
 
 pub ink-append : (xs ys : Gates) → ink (xs ++ ys) ≡ ink xs ++ ink ys
@@ -95,3 +105,11 @@ ink-append (g ∷ xs) ys = ap (λ t. g .0 ∷ (g .1 ∷ t)) (ink-append xs ys)
 pub ink-length : (xs : Gates) → length (ink xs) ≡ 2 * length xs
 ink-length [] = refl
 ink-length (g ∷ xs) = omega (arith, ink-length xs)
+
+-- a part drawn with words that are those of the drawing
+pub drew-by : (w : List ℕ) (at : ℕ) (xs ys w1 : List ℕ) → xs ≡ ys → Drew w at xs w1 → Drew w at ys w1
+drew-by w at xs ys w1 e d = subst (λ (u : List ℕ). Drew w at u w1) e d
+
+-- the same, drawn behind what stands already at the front
+pub drew-then : (w xs w1 : List ℕ) (n : ℕ) (zs ys y2 : List ℕ) → Drew w 0 xs w1 → length xs ≡ n → zs ≡ ys → Drew (take (length w1 - n) (drop n w1)) 0 zs y2 → Drew w 0 (xs ++ ys) (putMid n (length w1 - n) w1 y2)
+drew-then w xs w1 n zs ys y2 d e z f = drew-behind w xs w1 n ys y2 d e (drew-by (take (length w1 - n) (drop n w1)) 0 zs ys y2 z f)

@@ -9,6 +9,7 @@ use Rattle.std.proofs.shelf.Lists.{drop-more, length-append}
 use Rattle.circuit.specs.Parts.{Gates, after, plus4, mux-gates}
 use Rattle.circuit.specs.PartsRegisters.{level-gates, split-gates, keep-gates}
 use Rattle.circuit.proofs.Settling.{after-length}
+use Rattle.cpu.specs.Cpu.{flat}
 use Rattle.cpu.specs.Ink.{ink}
 use Rattle.cpu.proofs.Inking.{ink-append, ink-length}
 use Rattle.cpu.proofs.Loops.{mux-size}
@@ -105,3 +106,12 @@ pub keep-none : (n : ℕ) (ls : List (ℕ × ℕ)) (d : List ℕ) (ws : List (Li
 unfolding keep-gates
 keep-none n [] d ws e = refl
 keep-none n (l ∷ ls) d ws e = absurd (let k = ap length e in omega arith)
+
+-- words one behind the other
+pub flat-size : (ws : List (List ℕ)) → Sixteen ws → length (flat ws) ≡ 16 * length ws
+flat-size [] w = refl
+flat-size (x ∷ ws) w =
+    let ih = flat-size ws (λ i h. w (suc i) (omega arith)) in
+    let l : length x ≡ 16 = w 0 (omega arith) in
+    let a = length-append x (flat ws) in
+    omega arith

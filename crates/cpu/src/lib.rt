@@ -1,6 +1,11 @@
 // The drawing of the instruction machine: what it is stands in specs/, that it is the machine in proofs/.
 mod parts;
 mod ports;
+mod signals;
+mod control;
+mod numbers;
+mod words;
+mod stages;
 
 ghost use Rattle.drawing.specs.Drawing.{Is-machine, course-cycles};
 ghost use Rattle.cpu.specs.Cpu.{cpu};
