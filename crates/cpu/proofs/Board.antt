@@ -18,7 +18,7 @@ use Rattle.circuit.proofs.Reading.{line-levels, file-levels}
 use Rattle.cpu.specs.Signals.{LOW, HIGH, INSTRUCTION, TAPE, FIELD-D, PROGRAM-COUNTER, REGISTERS, OPERAND, RESULT, TARGET, PHASE-1, PHASE-2, PHASE-3, WRITES, LOADS, control-start, from}
 use Rattle.cpu.specs.Control.{STORE, EMIT, TAKE, HALT-0, HALT-1, LOAD, WRITE}
 use Rattle.cpu.specs.Stages.{PORT, NEXT-RESULT, WRITTEN, WRITE-SELECT, NEXT-REGISTERS, NEXT-COUNTER, ADDRESS}
-use Rattle.cpu.specs.Cpu.{cpu-gates, cpu, flat}
+use Rattle.cpu.specs.Cpu.{cpu-gates, cpu-next, cpu-pins, cpu, flat}
 use Rattle.cpu.proofs.Drawing.{Staged, staged, sound, address-wide, port-wide, result-wide, counter-wide}
 use Rattle.cpu.proofs.DataPath.{written-is, registers-are}
 
@@ -156,14 +156,14 @@ after-cycle b f regs =
 
 module _ (f : ℕ → Bool) where
   pins-are : map f (cpu .pins) ≡ bits 16 (value (map f ADDRESS)) ++ (bits 16 (value (map f PORT)) ++ (f STORE ∷ f EMIT ∷ f TAKE ∷ f HALT-0 ∷ f HALT-1 ∷ []))
-  unfolding cpu
+  unfolding cpu cpu-pins
   pins-are =
       map-++ f ADDRESS (PORT ++ (STORE ∷ EMIT ∷ TAKE ∷ HALT-0 ∷ HALT-1 ∷ []))
       ∙ ap₂ {C = List Bool} (λ x y. x ++ y) (bits-on f ADDRESS 16 address-wide)
       (map-++ f PORT (STORE ∷ EMIT ∷ TAKE ∷ HALT-0 ∷ HALT-1 ∷ []) ∙ ap {B = List Bool} (λ x. x ++ (f STORE ∷ f EMIT ∷ f TAKE ∷ f HALT-0 ∷ f HALT-1 ∷ [])) (bits-on f PORT 16 port-wide))
 
   next-is : (regs : List ℕ) → file-levels f NEXT-REGISTERS ≡ each-bits regs → map f (cpu .next) ≡ held (value (map f NEXT-COUNTER)) regs (value (map f PORT)) (value (map f NEXT-RESULT)) (value (map f FIELD-D)) (f PHASE-3) (f PHASE-1) (f PHASE-2) (f WRITE) (f LOAD)
-  unfolding cpu held
+  unfolding cpu cpu-next held
   next-is regs e =
       let last : List ℕ = FIELD-D ++ (PHASE-3 ∷ PHASE-1 ∷ PHASE-2 ∷ WRITE ∷ LOAD ∷ []) in
       map-++ f NEXT-COUNTER (flat NEXT-REGISTERS ++ (PORT ++ (NEXT-RESULT ++ last)))

@@ -13,11 +13,11 @@ use Rattle.circuit.proofs.Settling.{Obeys, Obeys-each, obeys-each, sound-by-tes
 use Rattle.cpu.specs.Signals.{INSTRUCTION, TAPE, PROGRAM-COUNTER, REGISTERS, OPERAND, RESULT, flop-count, gate-count, signal-count, control-start, late-index-start, index-start, select-start, read-start, first-start, second-start, addend-start, adder-start, nand-start, less-start, zero-start, nand-or-less-start, half-or-low-start, below-4-start, from-4-start, below-8-start, from-8-start, result-start, written-start, write-select-start, write-start, branch-start, jump-start, counter-start, address-start}
 use Rattle.cpu.specs.Control.{control-stage}
 use Rattle.cpu.specs.Stages.{late-index-stage, LATE-INDEX, index-stage, INDEX, select-stage, READ-SELECT, read-stage, PORT, first-stage, FIRST, NUMBER, second-stage, SECOND, addend-stage, ADDEND, adder-stage, SUM, CARRY, nand-stage, NANDED, less-stage, zero-stage, IS-ZERO, LESS-WORD, HALF-WORD, LOW-WORD, HIGH-WORD, nand-or-less-stage, NAND-OR-LESS, half-or-low-stage, HALF-OR-LOW, below-4-stage, RESULT-BELOW-4, from-4-stage, RESULT-FROM-4, below-8-stage, RESULT-BELOW-8, from-8-stage, RESULT-FROM-8, result-stage, NEXT-RESULT, written-stage, WRITTEN, write-select-stage, WRITE-SELECT, write-stage, NEXT-REGISTERS, branch-stage, jump-stage, STAY-OR-JUMP, counter-stage, NEXT-COUNTER, address-stage, ADDRESS}
-use Rattle.cpu.specs.Cpu.{stages, cpu-gates, cpu}
+use Rattle.cpu.specs.Cpu.{stages, cpu-gates, cpu-flops, cpu-next, cpu-pins, cpu}
 
 -- every name of the drawing, to be unfolded together
 unfoldable pub drawing : Unit {0}
-unfolding cpu cpu-gates stages control-stage late-index-stage LATE-INDEX index-stage INDEX select-stage READ-SELECT read-stage PORT first-stage FIRST NUMBER second-stage SECOND addend-stage ADDEND adder-stage SUM CARRY nand-stage NANDED less-stage zero-stage IS-ZERO LESS-WORD HALF-WORD LOW-WORD HIGH-WORD nand-or-less-stage NAND-OR-LESS half-or-low-stage HALF-OR-LOW below-4-stage RESULT-BELOW-4 from-4-stage RESULT-FROM-4 below-8-stage RESULT-BELOW-8 from-8-stage RESULT-FROM-8 result-stage NEXT-RESULT written-stage WRITTEN write-select-stage WRITE-SELECT write-stage NEXT-REGISTERS branch-stage jump-stage STAY-OR-JUMP counter-stage NEXT-COUNTER address-stage ADDRESS INSTRUCTION TAPE PROGRAM-COUNTER REGISTERS OPERAND RESULT inverter-gates inverter-results nand-gates nand-results mux-gates mux-results invert-if-gates invert-if-results zero-gates zero-result adder-gates adder-results adder-carry level-gates level-results read-gates read-results split-gates split-results decoder keep-gates keep-results write-gates write-results
+unfolding cpu cpu-flops cpu-next cpu-pins cpu-gates stages control-stage late-index-stage LATE-INDEX index-stage INDEX select-stage READ-SELECT read-stage PORT first-stage FIRST NUMBER second-stage SECOND addend-stage ADDEND adder-stage SUM CARRY nand-stage NANDED less-stage zero-stage IS-ZERO LESS-WORD HALF-WORD LOW-WORD HIGH-WORD nand-or-less-stage NAND-OR-LESS half-or-low-stage HALF-OR-LOW below-4-stage RESULT-BELOW-4 from-4-stage RESULT-FROM-4 below-8-stage RESULT-BELOW-8 from-8-stage RESULT-FROM-8 result-stage NEXT-RESULT written-stage WRITTEN write-select-stage WRITE-SELECT write-stage NEXT-REGISTERS branch-stage jump-stage STAY-OR-JUMP counter-stage NEXT-COUNTER address-stage ADDRESS INSTRUCTION TAPE PROGRAM-COUNTER REGISTERS OPERAND RESULT inverter-gates inverter-results nand-gates nand-results mux-gates mux-results invert-if-gates invert-if-results zero-gates zero-result adder-gates adder-results adder-carry level-gates level-results read-gates read-results split-gates split-results decoder keep-gates keep-results write-gates write-results
 drawing = tt
 
 pub gates-counted : length cpu-gates ≡ gate-count

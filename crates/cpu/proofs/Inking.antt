@@ -47,7 +47,7 @@ put-two w at a b l =
     let n0 : at < at + 2 = omega arith in
     record {
       put = ap (λ n. take n (set (set w at a) (at + 1) b)) e ∙ (take-more-set (set w at a) (at + 1) b l2
-        ∙ (ap (λ t. t ++ (b ∷ [])) (take-more-set w at a l1) ∙ append-assoc (take at w) (a ∷ []) (b ∷ [])));
+          ∙ (ap (λ t. t ++ (b ∷ [])) (take-more-set w at a l1) ∙ append-assoc (take at w) (a ∷ []) (b ∷ [])));
       kept = drop-set-lt (at + 2) (set w at a) (at + 1) b n1 ∙ drop-set-lt (at + 2) w at a n0;
     }
 
@@ -67,7 +67,7 @@ drew-part w m xs ys l d =
     let zd : drop (length xs) ys ≡ drop (length xs) (drop m w) = subst (λ n. drop n ys ≡ drop n (take k (drop m w))) z (d .kept) ∙ ap (drop (length xs)) (take-rest w m) in
     let tk : take (m + length xs) (take m w ++ ys) ≡ take m w ++ xs = ap (λ n. take (n + length xs) (take m w ++ ys)) (sym lm) ∙ (take-append-add (take m w) ys (length xs) ∙ ap (λ t. take m w ++ t) zt) in
     let dk : drop (m + length xs) (take m w ++ ys) ≡ drop (m + length xs) w =
-      sym (drop-drop (length xs) m (take m w ++ ys)) ∙ (ap (drop (length xs)) (drop-at (take m w) ys m lm) ∙ (zd ∙ drop-drop (length xs) m w)) in
+    sym (drop-drop (length xs) m (take m w ++ ys)) ∙ (ap (drop (length xs)) (drop-at (take m w) ys m lm) ∙ (zd ∙ drop-drop (length xs) m w)) in
     record {
       put = ap (take (m + length xs)) new ∙ tk;
       kept = ap (drop (m + length xs)) new ∙ dk;

@@ -14,7 +14,7 @@ use Rattle.circuit.specs.Circuit.{Circuit, Board, tick, ticks, power-on, board-
 use Rattle.circuit.proofs.Ticking.{ticks-add, shown-stays, halted-stays, board-grows}
 use Rattle.machine.specs.Machine.{Machine, step, steps, begin, machine-run, seen-machine}
 use Rattle.drawing.specs.Drawing.{Halted-alike, Is-machine, course-cycles}
-use Rattle.cpu.specs.Cpu.{cpu}
+use Rattle.cpu.specs.Cpu.{cpu-flops, cpu}
 use Rattle.cpu.proofs.Drawing.{whole}
 use Rattle.cpu.proofs.Board.{held}
 use Rattle.cpu.proofs.States.{Words-in, Stands}
@@ -22,7 +22,7 @@ use Rattle.cpu.proofs.Simulation.{ends-at, instruction}
 
 -- at power on the board is in the third cycle of an instruction that wrote nothing
 stands-first : (mem tape : List ℕ) → Is-memory mem → Is-tape tape → Stands (begin mem tape) (tick cpu (power-on cpu mem tape))
-unfolding cpu held
+unfolding cpu cpu-flops held
 stands-first mem tape hm ht =
     ends-at (begin mem tape) (replicate 8 0) 0 0 0 false false 0 (power-on cpu mem tape)
     (record { pc-below = omega arith; eight = refl; registers-below = (omega arith, (omega arith, (omega arith, (omega arith, (omega arith, (omega arith, (omega arith, (omega arith, tt)))))))); mem-below = hm .1; tape-below = ht })

@@ -11,3 +11,4 @@ pub mod IsMachine
 pub mod Inking
 pub mod Loops
 pub mod PortLoops
+pub mod OnSheet

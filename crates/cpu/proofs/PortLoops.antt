@@ -36,8 +36,8 @@ level-more n s t ws j h w =
     let d : drop (2 * j) ws ≡ x ∷ (y ∷ drop (2 * (j + 1)) ws) = drop-more ws (2 * j) [] (omega arith) ∙ ap {B = List (List ℕ)} (λ r. x ∷ r) (drop-more ws (2 * j + 1) [] h ∙ ap {B = List (List ℕ)} (λ k. y ∷ drop k ws) e) in
     let a = after-mux n s t y x (w (2 * j + 1) h) (w (2 * j) (omega arith)) in
     ap (λ u. ink (level-gates n s t u)) d
-      ∙ (ink-append (mux-gates n s t y x) (level-gates (after n (mux-gates n s t y x)) s t (drop (2 * (j + 1)) ws))
-      ∙ ap (λ k. ink (mux-gates n s t y x) ++ ink (level-gates k s t (drop (2 * (j + 1)) ws))) a)
+    ∙ (ink-append (mux-gates n s t y x) (level-gates (after n (mux-gates n s t y x)) s t (drop (2 * (j + 1)) ws))
+    ∙ ap (λ k. ink (mux-gates n s t y x) ++ ink (level-gates k s t (drop (2 * (j + 1)) ws))) a)
 
 pub level-size : (n s t : ℕ) (ws : List (List ℕ)) → Sixteen ws → length (ink (level-gates n s t ws)) ≡ 96 * (length ws / 2)
 unfolding level-gates
@@ -87,7 +87,7 @@ keep-more n ls d ws i h k l w =
     let g = mux-gates n (p .0) (p .1) d x in
     let a = after-mux n (p .0) (p .1) d x l (w i h) in
     rw (drop-more ls i (0, 0) (omega arith), drop-more ws i [] h)
-      (ink-append g (keep-gates (after n g) (drop (i + 1) ls) d (drop (i + 1) ws)) ∙ ap (λ k. ink g ++ ink (keep-gates k (drop (i + 1) ls) d (drop (i + 1) ws))) a)
+    (ink-append g (keep-gates (after n g) (drop (i + 1) ls) d (drop (i + 1) ws)) ∙ ap (λ k. ink g ++ ink (keep-gates k (drop (i + 1) ls) d (drop (i + 1) ws))) a)
 
 pub keep-size : (n : ℕ) (ls : List (ℕ × ℕ)) (d : List ℕ) (ws : List (List ℕ)) → length ls ≡ length ws → length d ≡ 16 → Sixteen ws → length (ink (keep-gates n ls d ws)) ≡ 96 * length ws
 unfolding keep-gates

@@ -4,6 +4,7 @@ use mathlib.Core.List.{List, [], _∷_, _++_}
 use Prim.Native.Nat.{ℕ, zero, suc}
 use lib.ListN.{replicate}
 use Rattle.circuit.specs.Circuit.{Circuit}
+use Rattle.circuit.specs.Sheet.{levels}
 use Rattle.circuit.specs.Parts.{Gates, join}
 use Rattle.cpu.specs.Signals.{FIELD-D, PHASE-1, PHASE-2, PHASE-3}
 use Rattle.cpu.specs.Control.{control-stage, STORE, EMIT, TAKE, HALT-0, HALT-1, LOAD, WRITE}
@@ -26,10 +27,14 @@ flat (x ∷ xs) = x ++ flat xs
 
 -- At power on only phase 3 is high, so that the first cycle asks for the word at place 0. The phases follow one another
 -- in a ring.
+unfoldable pub cpu-flops : List ℕ
+cpu-flops = replicate 181 0 ++ (1 ∷ 0 ∷ 0 ∷ [])
+
+unfoldable pub cpu-next : List ℕ
+cpu-next = NEXT-COUNTER ++ (flat NEXT-REGISTERS ++ (PORT ++ (NEXT-RESULT ++ (FIELD-D ++ (PHASE-3 ∷ PHASE-1 ∷ PHASE-2 ∷ WRITE ∷ LOAD ∷ [])))))
+
+unfoldable pub cpu-pins : List ℕ
+cpu-pins = ADDRESS ++ (PORT ++ (STORE ∷ EMIT ∷ TAKE ∷ HALT-0 ∷ HALT-1 ∷ []))
+
 unfoldable pub cpu : Circuit
-cpu = record {
-  flops = replicate 181 false ++ (true ∷ false ∷ false ∷ []);
-  gates = cpu-gates;
-  next = NEXT-COUNTER ++ (flat NEXT-REGISTERS ++ (PORT ++ (NEXT-RESULT ++ (FIELD-D ++ (PHASE-3 ∷ PHASE-1 ∷ PHASE-2 ∷ WRITE ∷ LOAD ∷ [])))));
-  pins = ADDRESS ++ (PORT ++ (STORE ∷ EMIT ∷ TAKE ∷ HALT-0 ∷ HALT-1 ∷ []));
-}
+cpu = record { flops = levels cpu-flops; gates = cpu-gates; next = cpu-next; pins = cpu-pins }

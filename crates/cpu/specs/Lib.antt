@@ -4,3 +4,4 @@ pub mod Control
 pub mod Stages
 pub mod Cpu
 pub mod Ink
+pub mod Promise

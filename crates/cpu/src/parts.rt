@@ -83,7 +83,11 @@ pub fn draw_mux(sheet: &mut [u32], first: u32, select: u32, unselect: u32, xs: &
 {
     let mut n = first;
     for i in 0..xs.len() {
-        put_gates(sheet, 6 * i, &[(xs[i], select), (ys[i], unselect), (n, n + 1)]);
+        put_gates(
+            sheet,
+            6 * i,
+            &[(xs[i], select), (ys[i], unselect), (n, n + 1)],
+        );
         n += 3;
     }
 }
@@ -96,7 +100,11 @@ pub fn draw_invert_if(sheet: &mut [u32], first: u32, line: u32, xs: &[u32])
 {
     let mut n = first;
     for i in 0..xs.len() {
-        put_gates(sheet, 8 * i, &[(xs[i], line), (xs[i], n), (line, n), (n + 1, n + 2)]);
+        put_gates(
+            sheet,
+            8 * i,
+            &[(xs[i], line), (xs[i], n), (line, n), (n + 1, n + 2)],
+        );
         n += 4;
     }
 }
@@ -116,7 +124,17 @@ pub fn draw_adder(sheet: &mut [u32], first: u32, xs: &[u32], ys: &[u32], carry_i
         put_gates(
             sheet,
             18 * i,
-            &[(x, y), (x, n), (y, n), (n + 1, n + 2), (n + 3, carry), (n + 3, n + 4), (carry, n + 4), (n + 5, n + 6), (n, n + 4)],
+            &[
+                (x, y),
+                (x, n),
+                (y, n),
+                (n + 1, n + 2),
+                (n + 3, carry),
+                (n + 3, n + 4),
+                (carry, n + 4),
+                (n + 5, n + 6),
+                (n, n + 4),
+            ],
         );
         carry = n + 8;
         n += 9;

@@ -4,7 +4,6 @@ ghost use mathlib.Core.Path.{_≡_};
 ghost use lib.ListN.{length};
 ghost use Rattle.circuit.specs.PartsRegisters.{level-gates, split-gates, keep-gates};
 ghost use Rattle.cpu.specs.Ink.{ink, Drew};
-
 use crate::parts::draw_mux;
 use crate::parts::put_gates;
 
@@ -16,7 +15,14 @@ pub fn draw_level(sheet: &mut [u32], first: u32, select: u32, unselect: u32, wor
 {
     let mut n = first;
     for j in 0..words.len() / 2 {
-        draw_mux(&mut sheet[96 * j..], n, select, unselect, &words[2 * j + 1], &words[2 * j]);
+        draw_mux(
+            &mut sheet[96 * j..],
+            n,
+            select,
+            unselect,
+            &words[2 * j + 1],
+            &words[2 * j],
+        );
         n += 48;
     }
 }
@@ -30,13 +36,23 @@ pub fn draw_split(sheet: &mut [u32], first: u32, select: u32, unselect: u32, lin
     let mut n = first;
     for i in 0..lines.len() {
         let (line, _) = lines[i];
-        put_gates(sheet, 8 * i, &[(line, unselect), (n, n), (line, select), (n + 2, n + 2)]);
+        put_gates(
+            sheet,
+            8 * i,
+            &[(line, unselect), (n, n), (line, select), (n + 2, n + 2)],
+        );
         n += 4;
     }
 }
 
 // Each register takes the word where its line is high, else it keeps its own.
-pub fn draw_keep(sheet: &mut [u32], first: u32, lines: &[(u32, u32)], word: &[u32; 16], words: &[[u32; 16]])
+pub fn draw_keep(
+    sheet: &mut [u32],
+    first: u32,
+    lines: &[(u32, u32)],
+    word: &[u32; 16],
+    words: &[[u32; 16]],
+)
     requires same { ⌜ length (now lines) ≡ length (now words) ⌝ }
     requires room { ⌜ 96 * length (now words) ≤ length (now sheet) ⌝ }
     requires small { ⌜ first + 48 * length (now words) < 2 ^ 32 ⌝ }

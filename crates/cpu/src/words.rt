@@ -2,7 +2,6 @@
 ghost use mathlib.Core.Path.{_≡_};
 ghost use Rattle.cpu.specs.Signals.{PROGRAM-COUNTER, OPERAND, REGISTERS};
 ghost use Rattle.cpu.specs.Stages.{PORT, SUM};
-
 use crate::parts::every;
 use crate::signals::*;
 

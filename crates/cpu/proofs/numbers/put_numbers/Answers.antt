@@ -17,7 +17,7 @@ loop-i-again c =
     let m : c .args .at + c .loop-i .i + 1 ≡ c .args .at + (c .loop-i .i + 1) = omega arith in
     let room : c .args .at + c .loop-i .i < length (c .loop-i .sheet) = omega arith in
     begun-more (c .args .sheet .now) at xs w (at + i) (drop i xs) (x ∷ []) (drop (i + 1) xs) (set w (at + i) x) (at + (i + 1))
-      (c .loop-i .inv) (drop-more xs i 0 (c .loop-i-test .taken)) (put-one w (at + i) x room) m
+    (c .loop-i .inv) (drop-more xs i 0 (c .loop-i-test .taken)) (put-one w (at + i) x room) m
 
 pub returns : need.returns
 returns c =

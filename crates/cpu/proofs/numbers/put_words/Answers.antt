@@ -17,7 +17,7 @@ loop-i-again c =
     let wide : length x ≡ 16 = c .told-words i (c .loop-i-test .taken) in
     let m : 16 * i + length x ≡ 16 * (i + 1) = omega arith in
     begun-more (c .args .sheet .now) 0 (flat ws) (c .loop-i .sheet) (16 * i) (flat (drop i ws)) x (flat (drop (i + 1) ws)) (c .put-numbers .last .sheet) (16 * (i + 1))
-      (c .loop-i .inv) (ap flat (drop-more ws i [] (c .loop-i-test .taken))) (c .put-numbers .ensures) m
+    (c .loop-i .inv) (ap flat (drop-more ws i [] (c .loop-i-test .taken))) (c .put-numbers .ensures) m
 
 pub returns : need.returns
 returns c =

@@ -19,9 +19,11 @@ loop-i-again c =
     let n = c .loop-i .n in
     let carry = c .loop-i .carry in
     let m : 18 * c .loop-i .i + 18 ≡ 18 * (c .loop-i .i + 1) = omega arith in
-    let num : c .loop-i .n + 9 ≡ c .args .first + 9 * (c .loop-i .i + 1) = omega (arith, c .loop-i .inv .1) in
-    (begun-more (c .args .sheet .now) 0 (ink (adder-gates first xs ys (c .args .carry-in))) (c .loop-i .sheet) (18 * i) (ink (adder-gates n (drop i xs) (drop i ys) carry)) (full-adder-ink n (getD xs i 0) (getD ys i 0) carry) (ink (adder-gates (n + 9) (drop (i + 1) xs) (drop (i + 1) ys) (n + 8))) (c .put-gates .last .sheet) (18 * (i + 1))
-      (c .loop-i .inv .0) (adder-more n xs ys carry i (c .loop-i-test .taken) (c .pre .same)) (c .put-gates .ensures) m, num)
+    let num : c .loop-i .n + 9 ≡ c .args .first + 9 * (c .loop-i .i + 1) = omega (arith, c .loop-i .inv .1) in (
+      begun-more (c .args .sheet .now) 0 (ink (adder-gates first xs ys (c .args .carry-in))) (c .loop-i .sheet) (18 * i) (ink (adder-gates n (drop i xs) (drop i ys) carry)) (full-adder-ink n (getD xs i 0) (getD ys i 0) carry) (ink (adder-gates (n + 9) (drop (i + 1) xs) (drop (i + 1) ys) (n + 8))) (c .put-gates .last .sheet) (18 * (i + 1))
+          (c .loop-i .inv .0) (adder-more n xs ys carry i (c .loop-i-test .taken) (c .pre .same)) (c .put-gates .ensures) m,
+      num,
+    )
 
 pub returns : need.returns
 returns c =
@@ -33,4 +35,4 @@ returns c =
     let carry = c .loop-i .carry in
     let m : 18 * c .loop-i .i ≡ 0 + length (ink (adder-gates first xs ys (c .args .carry-in))) = omega (arith, adder-size first xs ys (c .args .carry-in) (c .pre .same)) in
     begun-all (c .args .sheet .now) 0 (ink (adder-gates first xs ys (c .args .carry-in))) (c .loop-i .sheet) (18 * i) (ink (adder-gates n (drop i xs) (drop i ys) carry))
-      (c .loop-i .inv .0) (ap ink (adder-none n (drop i xs) (drop i ys) carry (drop-all i xs (c .loop-i-test .left)))) m
+    (c .loop-i .inv .0) (ap ink (adder-none n (drop i xs) (drop i ys) carry (drop-all i xs (c .loop-i-test .left)))) m

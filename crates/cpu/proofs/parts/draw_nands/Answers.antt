@@ -20,7 +20,7 @@ loop-i-again c =
     let m : 2 * c .loop-i .i + 2 ≡ 2 * (c .loop-i .i + 1) = omega arith in
     let e : n + 1 ≡ first + (i + 1) = omega arith in
     begun-more (c .args .sheet .now) 0 (ink (nand-gates first xs ys)) (c .loop-i .sheet) (2 * i) (ink (nand-gates n (drop i xs) (drop i ys))) ((getD xs i 0) ∷ ((getD ys i 0) ∷ [])) (ink (nand-gates (first + (i + 1)) (drop (i + 1) xs) (drop (i + 1) ys))) (c .put-gates .last .sheet) (2 * (i + 1))
-      (c .loop-i .inv) (nands-more n xs ys i (c .loop-i-test .taken) (c .pre .same) ∙ ap (λ k. ((getD xs i 0) ∷ ((getD ys i 0) ∷ [])) ++ ink (nand-gates k (drop (i + 1) xs) (drop (i + 1) ys))) e) (c .put-gates .ensures) m
+    (c .loop-i .inv) (nands-more n xs ys i (c .loop-i-test .taken) (c .pre .same) ∙ ap (λ k. ((getD xs i 0) ∷ ((getD ys i 0) ∷ [])) ++ ink (nand-gates k (drop (i + 1) xs) (drop (i + 1) ys))) e) (c .put-gates .ensures) m
 
 pub returns : need.returns
 returns c =
@@ -31,4 +31,4 @@ returns c =
     let n = c .args .first + c .loop-i .i in
     let m : 2 * c .loop-i .i ≡ 0 + length (ink (nand-gates first xs ys)) = omega (arith, nands-size first xs ys (c .pre .same)) in
     begun-all (c .args .sheet .now) 0 (ink (nand-gates first xs ys)) (c .loop-i .sheet) (2 * i) (ink (nand-gates n (drop i xs) (drop i ys)))
-      (c .loop-i .inv) (ap ink (nands-none n (drop i xs) (drop i ys) (drop-all i xs (c .loop-i-test .left)))) m
+    (c .loop-i .inv) (ap ink (nands-none n (drop i xs) (drop i ys) (drop-all i xs (c .loop-i-test .left)))) m

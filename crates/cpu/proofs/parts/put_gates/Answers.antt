@@ -13,10 +13,10 @@ loop-i-again c =
     let g = getD (c .args .gates .now) (c .loop-i .i) (0, 0) in
     let m : c .args .at + 2 * c .loop-i .i + 2 ≡ c .args .at + 2 * (c .loop-i .i + 1) = omega arith in
     begun-more (c .args .sheet .now) (c .args .at) (ink (c .args .gates .now)) (c .loop-i .sheet) (c .args .at + 2 * c .loop-i .i) (ink (drop (c .loop-i .i) (c .args .gates .now))) (g .0 ∷ (g .1 ∷ [])) (ink (drop (c .loop-i .i + 1) (c .args .gates .now))) (c .put-gate .last .sheet) (c .args .at + 2 * (c .loop-i .i + 1))
-      (c .loop-i .inv) (ap ink (drop-more (c .args .gates .now) (c .loop-i .i) (0, 0) (c .loop-i-test .taken))) (c .put-gate .ensures) m
+    (c .loop-i .inv) (ap ink (drop-more (c .args .gates .now) (c .loop-i .i) (0, 0) (c .loop-i-test .taken))) (c .put-gate .ensures) m
 
 pub returns : need.returns
 returns c =
     let m : c .args .at + 2 * c .loop-i .i ≡ c .args .at + length (ink (c .args .gates .now)) = omega (arith, ink-length (c .args .gates .now)) in
     begun-all (c .args .sheet .now) (c .args .at) (ink (c .args .gates .now)) (c .loop-i .sheet) (c .args .at + 2 * c .loop-i .i) (ink (drop (c .loop-i .i) (c .args .gates .now)))
-      (c .loop-i .inv) (ap ink (drop-all (c .loop-i .i) (c .args .gates .now) (c .loop-i-test .left))) m
+    (c .loop-i .inv) (ap ink (drop-all (c .loop-i .i) (c .args .gates .now) (c .loop-i-test .left))) m

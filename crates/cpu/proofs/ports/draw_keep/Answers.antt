@@ -28,9 +28,11 @@ loop-i-again c =
     let size = mux-size n (l .0) (l .1) d x (long ∙ sym wide) in
     let m : 96 * i + length (ink (mux-gates n (l .0) (l .1) d x)) ≡ 96 * (i + 1) = omega arith in
     let room : 96 * i ≤ length w = omega arith in
-    let num : c .loop-i .n + 48 ≡ c .args .first + 48 * (c .loop-i .i + 1) = omega (arith, c .loop-i .inv .1) in
-    (begun-more (c .args .sheet .now) 0 (ink (keep-gates (c .args .first) ls d ws)) w (96 * i) (ink (keep-gates n (drop i ls) d (drop i ws))) (ink (mux-gates n (l .0) (l .1) d x)) (ink (keep-gates (n + 48) (drop (i + 1) ls) d (drop (i + 1) ws))) (putMid (96 * i) (length w - 96 * i) w (c .draw-mux .last .sheet)) (96 * (i + 1))
-      (c .loop-i .inv .0) (keep-more n ls d ws i (c .loop-i-test .taken) (c .pre .same) long (c .told-words)) (drew-part w (96 * i) (ink (mux-gates n (l .0) (l .1) d x)) (c .draw-mux .last .sheet) room (c .draw-mux .ensures)) m, num)
+    let num : c .loop-i .n + 48 ≡ c .args .first + 48 * (c .loop-i .i + 1) = omega (arith, c .loop-i .inv .1) in (
+      begun-more (c .args .sheet .now) 0 (ink (keep-gates (c .args .first) ls d ws)) w (96 * i) (ink (keep-gates n (drop i ls) d (drop i ws))) (ink (mux-gates n (l .0) (l .1) d x)) (ink (keep-gates (n + 48) (drop (i + 1) ls) d (drop (i + 1) ws))) (putMid (96 * i) (length w - 96 * i) w (c .draw-mux .last .sheet)) (96 * (i + 1))
+          (c .loop-i .inv .0) (keep-more n ls d ws i (c .loop-i-test .taken) (c .pre .same) long (c .told-words)) (drew-part w (96 * i) (ink (mux-gates n (l .0) (l .1) d x)) (c .draw-mux .last .sheet) room (c .draw-mux .ensures)) m,
+      num,
+    )
 
 pub returns : need.returns
 returns c =
@@ -43,4 +45,4 @@ returns c =
     let size = keep-size (c .args .first) ls d ws (c .pre .same) long (c .told-words) in
     let m : 96 * i ≡ 0 + length (ink (keep-gates (c .args .first) ls d ws)) = omega arith in
     begun-all (c .args .sheet .now) 0 (ink (keep-gates (c .args .first) ls d ws)) (c .loop-i .sheet) (96 * i) (ink (keep-gates n (drop i ls) d (drop i ws)))
-      (c .loop-i .inv .0) (ap ink (keep-none n (drop i ls) d (drop i ws) (drop-all i ls (omega arith)))) m
+    (c .loop-i .inv .0) (ap ink (keep-none n (drop i ls) d (drop i ws) (drop-all i ls (omega arith)))) m

@@ -43,9 +43,11 @@ loop-j-again c =
     let size = mux-size n s t y x (upper ∙ sym lower) in
     let m : 96 * j + length (ink (mux-gates n s t y x)) ≡ 96 * (j + 1) = omega arith in
     let room : 96 * j ≤ length w = omega arith in
-    let num : c .loop-j .n + 48 ≡ c .args .first + 48 * (c .loop-j .j + 1) = omega (arith, c .loop-j .inv .1) in
-    (begun-more (c .args .sheet .now) 0 (ink (level-gates (c .args .first) s t ws)) w (96 * j) (ink (level-gates n s t (drop (2 * j) ws))) (ink (mux-gates n s t y x)) (ink (level-gates (n + 48) s t (drop (2 * (j + 1)) ws))) (putMid (96 * j) (length w - 96 * j) w (c .draw-mux .last .sheet)) (96 * (j + 1))
-      (c .loop-j .inv .0) (level-more n s t ws j next (c .told-words)) (drew-part w (96 * j) (ink (mux-gates n s t y x)) (c .draw-mux .last .sheet) room (c .draw-mux .ensures)) m, num)
+    let num : c .loop-j .n + 48 ≡ c .args .first + 48 * (c .loop-j .j + 1) = omega (arith, c .loop-j .inv .1) in (
+      begun-more (c .args .sheet .now) 0 (ink (level-gates (c .args .first) s t ws)) w (96 * j) (ink (level-gates n s t (drop (2 * j) ws))) (ink (mux-gates n s t y x)) (ink (level-gates (n + 48) s t (drop (2 * (j + 1)) ws))) (putMid (96 * j) (length w - 96 * j) w (c .draw-mux .last .sheet)) (96 * (j + 1))
+          (c .loop-j .inv .0) (level-more n s t ws j next (c .told-words)) (drew-part w (96 * j) (ink (mux-gates n s t y x)) (c .draw-mux .last .sheet) room (c .draw-mux .ensures)) m,
+      num,
+    )
 
 pub returns : need.returns
 returns c =
@@ -58,4 +60,4 @@ returns c =
     let m : 96 * j ≡ 0 + length (ink (level-gates (c .args .first) s t ws)) = omega arith in
     let few : length (drop (2 * j) ws) ≤ 1 = omega (arith, length-drop (2 * j) ws) in
     begun-all (c .args .sheet .now) 0 (ink (level-gates (c .args .first) s t ws)) (c .loop-j .sheet) (96 * j) (ink (level-gates n s t (drop (2 * j) ws)))
-      (c .loop-j .inv .0) (ap ink (level-none n s t (drop (2 * j) ws) few)) m
+    (c .loop-j .inv .0) (ap ink (level-none n s t (drop (2 * j) ws) few)) m
