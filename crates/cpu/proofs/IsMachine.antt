@@ -25,7 +25,7 @@ stands-first : (mem tape : List ℕ) → Is-memory mem → Is-tape tape → Stan
 unfolding cpu cpu-flops held
 stands-first mem tape hm ht =
     ends-at (begin mem tape) (replicate 8 0) 0 0 0 false false 0 (power-on cpu mem tape)
-    (record { pc-below = omega arith; eight = refl; registers-below = (omega arith, (omega arith, (omega arith, (omega arith, (omega arith, (omega arith, (omega arith, (omega arith, tt)))))))); mem-below = hm .1; tape-below = ht })
+    (record { pc-below = omega arith; eight = refl; registers-below = (omega arith, (omega arith, (omega arith, (omega arith, (omega arith, (omega arith, (omega arith, (omega arith, tt)))))))); mem-below = hm .1; tape-below = ht; mem-long = hm .0 })
     refl (omega arith) refl refl refl
 
 goes-along : (t : ℕ) (s : Machine) (b : Board) → Stands s b → Stands (steps t s) (ticks (3 * t) cpu b)

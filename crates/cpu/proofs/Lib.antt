@@ -12,3 +12,4 @@ pub mod Inking
 pub mod Loops
 pub mod PortLoops
 pub mod OnSheet
+pub mod AfterStore

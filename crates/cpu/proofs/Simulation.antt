@@ -107,10 +107,7 @@ module _ (s : Machine) (g : Words-in s) (z : s .halted ≡ running) (r d : ℕ) 
 
   -- the words stay words
   words-set : (v : ℕ) → v < 65536 → Words-in (set-register s (fetched s .d) v)
-  words-set v h = record { pc-below = pc-next; eight = length-set (s .registers) (fetched s .d) v ∙ g .eight; registers-below = put-below (s .registers) (fetched s .d) v (g .registers-below) h; mem-below = g .mem-below; tape-below = g .tape-below }
-
-  words-next : Words-in (record { pc = following s; registers = s .registers; mem = s .mem; tape = s .tape; out = s .out; halted = running })
-  words-next = record { pc-below = pc-next; eight = g .eight; registers-below = g .registers-below; mem-below = g .mem-below; tape-below = g .tape-below }
+  words-set v h = record { pc-below = pc-next; eight = length-set (s .registers) (fetched s .d) v ∙ g .eight; registers-below = put-below (s .registers) (fetched s .d) v (g .registers-below) h; mem-below = g .mem-below; tape-below = g .tape-below; mem-long = g .mem-long }
 
   -- operations 0 to 6: register d takes the result v
   sets : (o0 o1 o2 : Bool) (y v : ℕ) → v < 65536 → loads-word o0 o1 o2 false ≡ false → Control F o0 o1 o2 false false true → value (map F PORT) ≡ y → value (map F NEXT-RESULT) ≡ v → Stands (set-register s (fetched s .d) v) (tick cpu (tick cpu here))
@@ -181,7 +178,7 @@ module _ (s : Machine) (g : Words-in s) (z : s .halted ≡ running) (r d : ℕ) 
       let k = by-lines false false false true e0 e1 e2 e3 in
       let a = place (fetched s) s in
       ends-at (act Store (fetched s) s) (s .registers) RD (value (map F NEXT-RESULT)) (fetched s .d) false false (word (s .mem) a) (tick cpu here)
-      (record { pc-below = pc-next; eight = g .eight; registers-below = g .registers-below; mem-below = put-below (s .mem) a RD (g .mem-below) (word-below (s .registers) (fetched s .d) (g .registers-below)); tape-below = g .tape-below }) refl (omega arith) (g .eight)
+      (record { pc-below = pc-next; eight = g .eight; registers-below = g .registers-below; mem-below = put-below (s .mem) a RD (g .mem-below) (word-below (s .registers) (fetched s .d) (g .registers-below)); tape-below = g .tape-below; mem-long = length-set (s .mem) a RD ∙ g .mem-long }) refl (omega arith) (g .eight)
       (second-tick false false false true RD (following s) (value (map F NEXT-RESULT)) a k (port-d (k .from-4)) (stays k refl refl) refl (address-of k refl refl)) refl
 
   -- branch and jump
@@ -191,7 +188,7 @@ module _ (s : Machine) (g : Words-in s) (z : s .halted ≡ running) (r d : ℕ) 
       let k = by-lines true false false true e0 e1 e2 e3 in
       let after = act Zero (fetched s) s in
       ends-at after (s .registers) RD (value (map F NEXT-RESULT)) (fetched s .d) false false (word (s .mem) (value (map F ADDRESS))) (tick cpu here)
-      (record { pc-below = either-below (eqb RD 0) (target (s .pc) (fetched s .n)) (following s) (omega arith) pc-next; eight = g .eight; registers-below = g .registers-below; mem-below = g .mem-below; tape-below = g .tape-below }) refl (omega arith) (g .eight)
+      (record { pc-below = either-below (eqb RD 0) (target (s .pc) (fetched s .n)) (following s) (omega arith) pc-next; eight = g .eight; registers-below = g .registers-below; mem-below = g .mem-below; tape-below = g .tape-below; mem-long = g .mem-long }) refl (omega arith) (g .eight)
       (second-tick true false false true RD (after .pc) (value (map F NEXT-RESULT)) (value (map F ADDRESS)) k (port-d (k .from-4)) (Execute.counter-branches s g r d ld k) refl refl) refl
 
   jumps : F OP-0 ≡ false → F OP-1 ≡ true → F OP-2 ≡ false → F OP-3 ≡ true → Stands (act Jump (fetched s) s) (tick cpu (tick cpu here))
@@ -199,7 +196,7 @@ module _ (s : Machine) (g : Words-in s) (z : s .halted ≡ running) (r d : ℕ) 
   jumps e0 e1 e2 e3 =
       let k = by-lines false true false true e0 e1 e2 e3 in
       ends-at (act Jump (fetched s) s) (s .registers) RD (following s) (fetched s .d) true false (word (s .mem) (value (map F ADDRESS))) (tick cpu here)
-      (record { pc-below = ra-below; eight = length-set (s .registers) (fetched s .d) (following s) ∙ g .eight; registers-below = put-below (s .registers) (fetched s .d) (following s) (g .registers-below) pc-next; mem-below = g .mem-below; tape-below = g .tape-below }) refl (omega arith) (g .eight)
+      (record { pc-below = ra-below; eight = length-set (s .registers) (fetched s .d) (following s) ∙ g .eight; registers-below = put-below (s .registers) (fetched s .d) (following s) (g .registers-below) pc-next; mem-below = g .mem-below; tape-below = g .tape-below; mem-long = g .mem-long }) refl (omega arith) (g .eight)
       (second-tick false true false true RD RA (following s) (value (map F ADDRESS)) k (port-d (k .from-4)) (Execute.counter-jumps s g r d ld (k .op-zero) (k .jump)) (Execute.result-jump s g r d ld e0 e3) refl) refl
 
   -- in and out
@@ -209,14 +206,14 @@ module _ (s : Machine) (g : Words-in s) (z : s .halted ≡ running) (r d : ℕ) 
       let k = by-lines true true false true e0 e1 e2 e3 in
       let v = front (s .tape) in
       ends-at (act In (fetched s) s) (s .registers) RD v (fetched s .d) true false (word (s .mem) (value (map F ADDRESS))) (tick cpu here)
-      (record { pc-below = pc-next; eight = length-set (s .registers) (fetched s .d) v ∙ g .eight; registers-below = put-below (s .registers) (fetched s .d) v (g .registers-below) (front-below (s .tape) (g .tape-below)); mem-below = g .mem-below; tape-below = rest-below (s .tape) (g .tape-below) }) refl (omega arith) (g .eight)
+      (record { pc-below = pc-next; eight = length-set (s .registers) (fetched s .d) v ∙ g .eight; registers-below = put-below (s .registers) (fetched s .d) v (g .registers-below) (front-below (s .tape) (g .tape-below)); mem-below = g .mem-below; tape-below = rest-below (s .tape) (g .tape-below); mem-long = g .mem-long }) refl (omega arith) (g .eight)
       (second-tick true true false true RD (following s) v (value (map F ADDRESS)) k (port-d (k .from-4)) (stays k refl refl) (Execute.result-in s g r d ld e0 e3) refl) refl
 
   shows : F OP-0 ≡ false → F OP-1 ≡ false → F OP-2 ≡ true → F OP-3 ≡ true → Stands (act Out (fetched s) s) (tick cpu (tick cpu here))
   shows e0 e1 e2 e3 =
       let k = by-lines false false true true e0 e1 e2 e3 in
       ends-at (act Out (fetched s) s) (s .registers) RD (value (map F NEXT-RESULT)) (fetched s .d) false false (word (s .mem) (value (map F ADDRESS))) (tick cpu here)
-      (record { pc-below = pc-next; eight = g .eight; registers-below = g .registers-below; mem-below = g .mem-below; tape-below = g .tape-below }) refl (omega arith) (g .eight)
+      (record { pc-below = pc-next; eight = g .eight; registers-below = g .registers-below; mem-below = g .mem-below; tape-below = g .tape-below; mem-long = g .mem-long }) refl (omega arith) (g .eight)
       (second-tick false false true true RD (following s) (value (map F NEXT-RESULT)) (value (map F ADDRESS)) k (port-d (k .from-4)) (stays k refl refl) refl refl) refl
 
   -- the halting operations: nothing but the ending changes, and a halted board stays

@@ -6,7 +6,7 @@ use mathlib.Core.List.{List}
 use mathlib.Core.Logic.{_⊎_}
 use Prim.Native.Nat.{ℕ, suc, _<_}
 use lib.ListN.{length}
-use Rattle.words.specs.Words.{word, Is-tape}
+use Rattle.words.specs.Words.{word, Is-tape, memory-size}
 use Rattle.words.specs.Runs.{running}
 use Rattle.circuit.specs.Circuit.{Board}
 use Rattle.machine.specs.Machine.{Machine}
@@ -20,6 +20,7 @@ pub record Words-in (s : Machine) : Type 0 where
   pub registers-below : Is-tape (s .registers)
   pub mem-below : Is-tape (s .mem)
   pub tape-below : Is-tape (s .tape)
+  pub mem-long : length (s .mem) ≡ memory-size
 
 -- before each of an instruction's three cycles; t, r and d are operand, result and register to write
 abbrev pub ready : ℕ → List ℕ → ℕ → ℕ → ℕ → Bool → List ℕ → List ℕ → List ℕ → Board

@@ -5,3 +5,4 @@ pub mod Stages
 pub mod Cpu
 pub mod Ink
 pub mod Promise
+pub mod Stored

@@ -12,6 +12,7 @@ mod words;
 ghost use Rattle.drawing.specs.Drawing.{Is-machine, course-cycles};
 ghost use Rattle.cpu.specs.Cpu.{cpu};
 ghost use Rattle.cpu.specs.Promise.{Draw-promise};
+ghost use Rattle.cpu.specs.Stored.{Stores-alone, Load-after-store, Fetch-after-store};
 use control::draw_control;
 use frame::put_next;
 use frame::put_pins;
@@ -52,6 +53,27 @@ pub fn draw(sheet: &mut [u32]) -> Drawn
 // instruction and eight at the start.
 pub fn cpu_is_machine() -> u8
     ensures { λ _. ⌜ Is-machine course-cycles cpu ⌝ }
+{
+    0
+}
+
+// No cycle both stores a word and wants one of memory.
+pub fn stores_alone() -> u8
+    ensures { λ _. ⌜ Stores-alone ⌝ }
+{
+    0
+}
+
+// A load that comes right after a store to the same place gets the stored word.
+pub fn load_after_store() -> u8
+    ensures { λ _. ⌜ Load-after-store ⌝ }
+{
+    0
+}
+
+// A store to the place of the next instruction is seen by its fetch.
+pub fn fetch_after_store() -> u8
+    ensures { λ _. ⌜ Fetch-after-store ⌝ }
 {
     0
 }
