@@ -20,16 +20,20 @@ pub fn put_power_on(sheet: &mut [u32])
     put_numbers(sheet, 0, &values);
 }
 
-// What each flip-flop holds in the next cycle. The phases follow one another in a ring.
+// What the last eight flip-flops hold next: the register to write, the phases, which follow one another in a ring, whether
+// a register is written, and whether from memory.
+const NEXT_LINES: [u32; 8] = [11, 12, 13, PHASE_3, PHASE_1, PHASE_2, WRITE, LOAD];
+
+// What each flip-flop holds in the next cycle.
 pub fn put_next(sheet: &mut [u32])
     requires room { ⌜ 184 ≤ length (now sheet) ⌝ }
     ensures { λ _. ⌜ Drew (now (sheet .entry)) 0 cpu-next (now (sheet .exit)) ⌝ }
 {
-    let kept = WRITE_START + 30;
+    let kept = AT_WRITE + 30;
     put_words(
         sheet,
         &[
-            every(COUNTER_START + 2, 3),
+            every(AT_COUNTER + 2, 3),
             every(kept, 3),
             every(kept + 48, 3),
             every(kept + 96, 3),
@@ -39,23 +43,10 @@ pub fn put_next(sheet: &mut [u32])
             every(kept + 288, 3),
             every(kept + 336, 3),
             port(),
-            every(RESULT_START + 2, 3),
+            every(AT_RESULT + 2, 3),
         ],
     );
-    put_numbers(
-        &mut sheet[176..],
-        0,
-        &[
-            FIELD_D[0],
-            FIELD_D[1],
-            FIELD_D[2],
-            PHASE_3,
-            PHASE_1,
-            PHASE_2,
-            WRITE,
-            LOAD,
-        ],
-    );
+    put_numbers(&mut sheet[176..], 0, &NEXT_LINES);
 }
 
 // The pins: address, datum, store, emit, take, and how it halts.
@@ -63,6 +54,6 @@ pub fn put_pins(sheet: &mut [u32])
     requires room { ⌜ 37 ≤ length (now sheet) ⌝ }
     ensures { λ _. ⌜ Drew (now (sheet .entry)) 0 cpu-pins (now (sheet .exit)) ⌝ }
 {
-    put_words(sheet, &[every(ADDRESS_START + 2, 3), port()]);
+    put_words(sheet, &[every(AT_ADDRESS + 2, 3), port()]);
     put_numbers(&mut sheet[32..], 0, &[STORE, EMIT, TAKE, HALT_0, HALT_1]);
 }

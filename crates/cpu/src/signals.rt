@@ -58,57 +58,57 @@ pub const WRITES: u32 = 216;
 pub const LOADS: u32 = 217;
 
 // where each stage begins
-pub const CONTROL_START: u32 = 218;
+pub const AT_CONTROL: u32 = 218;
 
-pub const LATE_INDEX_START: u32 = 290;
+pub const AT_LATE_INDEX: u32 = 290;
 
-pub const INDEX_START: u32 = 299;
+pub const AT_INDEX: u32 = 299;
 
-pub const SELECT_START: u32 = 308;
+pub const AT_SELECT: u32 = 308;
 
-pub const READ_START: u32 = 311;
+pub const AT_READ: u32 = 311;
 
-pub const FIRST_START: u32 = 647;
+pub const AT_FIRST: u32 = 647;
 
-pub const SECOND_START: u32 = 695;
+pub const AT_SECOND: u32 = 695;
 
-pub const ADDEND_START: u32 = 743;
+pub const AT_ADDEND: u32 = 743;
 
-pub const ADDER_START: u32 = 807;
+pub const AT_ADDER: u32 = 807;
 
-pub const NAND_START: u32 = 951;
+pub const AT_NAND: u32 = 951;
 
-pub const LESS_START: u32 = 967;
+pub const AT_LESS: u32 = 967;
 
-pub const ZERO_START: u32 = 968;
+pub const AT_ZERO: u32 = 968;
 
-pub const NAND_OR_LESS_START: u32 = 1016;
+pub const AT_NAND_OR_LESS: u32 = 1016;
 
-pub const HALF_OR_LOW_START: u32 = 1064;
+pub const AT_HALF_OR_LOW: u32 = 1064;
 
-pub const BELOW_4_START: u32 = 1112;
+pub const AT_BELOW_4: u32 = 1112;
 
-pub const FROM_4_START: u32 = 1160;
+pub const AT_FROM_4: u32 = 1160;
 
-pub const BELOW_8_START: u32 = 1208;
+pub const AT_BELOW_8: u32 = 1208;
 
-pub const FROM_8_START: u32 = 1256;
+pub const AT_FROM_8: u32 = 1256;
 
-pub const RESULT_START: u32 = 1304;
+pub const AT_RESULT: u32 = 1304;
 
-pub const WRITTEN_START: u32 = 1352;
+pub const AT_WRITTEN: u32 = 1352;
 
-pub const WRITE_SELECT_START: u32 = 1400;
+pub const AT_WRITE_SELECT: u32 = 1400;
 
-pub const WRITE_START: u32 = 1404;
+pub const AT_WRITE: u32 = 1404;
 
-pub const BRANCH_START: u32 = 1816;
+pub const AT_BRANCH: u32 = 1816;
 
-pub const JUMP_START: u32 = 1821;
+pub const AT_JUMP: u32 = 1821;
 
-pub const COUNTER_START: u32 = 1869;
+pub const AT_COUNTER: u32 = 1869;
 
-pub const ADDRESS_START: u32 = 1917;
+pub const AT_ADDRESS: u32 = 1917;
 
 // the control lines; one that begins with NOT is the inverse of the next, or a step on the way to it
 pub const NOT_OP_0: u32 = 218;
@@ -264,6 +264,127 @@ pub const SUM_0: u32 = 814;
 
 pub const SUM_STEP: u32 = 9;
 
+// words that are put together from others: the instruction's number with its sign carried on, less, half, low and high
+pub const NUMBER_WORD: [u32; 16] = [
+    2,
+    3,
+    4,
+    5,
+    6,
+    7,
+    SIGN_6,
+    SIGN_7,
+    SIGN_8,
+    SIGN_8,
+    SIGN_8,
+    SIGN_8,
+    SIGN_8,
+    SIGN_8,
+    SIGN_8,
+    SIGN_8,
+];
+
+pub const LESS_WORD: [u32; 16] = [
+    IS_LESS,
+    LOW,
+    LOW,
+    LOW,
+    LOW,
+    LOW,
+    LOW,
+    LOW,
+    LOW,
+    LOW,
+    LOW,
+    LOW,
+    LOW,
+    LOW,
+    LOW,
+    LOW,
+];
+
+pub const HALF_WORD: [u32; 16] = [
+    179,
+    180,
+    181,
+    182,
+    183,
+    184,
+    185,
+    186,
+    187,
+    188,
+    189,
+    190,
+    191,
+    192,
+    193,
+    LOW,
+];
+
+pub const LOW_WORD: [u32; 16] = [
+    2,
+    3,
+    4,
+    5,
+    6,
+    7,
+    8,
+    9,
+    10,
+    LOW,
+    LOW,
+    LOW,
+    LOW,
+    LOW,
+    LOW,
+    LOW,
+];
+
+pub const HIGH_WORD: [u32; 16] = [
+    601,
+    604,
+    607,
+    610,
+    613,
+    616,
+    619,
+    622,
+    2,
+    3,
+    4,
+    5,
+    6,
+    7,
+    8,
+    9,
+];
+
+// the index of the register that is read, on the way and at its end, with the inverses of its lines
+pub const LATE_INDEX: [u32; 3] = [292, 295, 298];
+
+pub const INDEX: [u32; 3] = [301, 304, 307];
+
+pub const NOT_INDEX: [u32; 3] = [308, 309, 310];
+
+// the decoder's lines with their inverses: one, two, four, eight
+pub const ONE_LINE: [(u32, u32); 1] = [(WRITES, NOT_WRITES)];
+
+pub const TWO_LINES: [(u32, u32); 2] = [(1405, 1404), (1407, 1406)];
+
+pub const FOUR_LINES: [(u32, u32); 4] = [(1409, 1408), (1411, 1410), (1413, 1412), (1415, 1414)];
+
+pub const EIGHT_LINES: [(u32, u32); 8] = [
+    (1417, 1416),
+    (1419, 1418),
+    (1421, 1420),
+    (1423, 1422),
+    (1425, 1424),
+    (1427, 1426),
+    (1429, 1428),
+    (1431, 1430),
+];
+
 // the carry out of the adder; whether the first word is less; whether the port is 0
 pub const CARRY: u32 = 950;
 
@@ -281,5 +402,11 @@ pub const NOT_TAKEN: u32 = 1818;
 pub const TO_SUM: u32 = 1819;
 
 pub const NOT_TO_SUM: u32 = 1820;
+
+pub const NOT_TARGET_0: u32 = 1400;
+
+pub const NOT_TARGET_1: u32 = 1401;
+
+pub const NOT_TARGET_2: u32 = 1402;
 
 pub const NOT_WRITES: u32 = 1403;

@@ -39,6 +39,6 @@ returns c =
     let x5 : List ℕ = x4 ++ ink (nand-gates nand-start OPERAND PORT) in
     let d5 : Drew w0 0 x5 w5 = drew-then w0 x4 w4 608 (ink (nand-gates nand-start (c .operand-operand .result) (c .port-port .result))) (ink (nand-gates nand-start OPERAND PORT)) (c .draw-nands .last .sheet) d4 refl nands (c .draw-nands .ensures) in
     let w6 = putMid 640 (length w5 - 640) w5 (c .draw-inverters .last .sheet) in
-    let x6 : List ℕ = x5 ++ ink (less-stage) in
-    let d6 : Drew w0 0 x6 w6 = drew-then w0 x5 w5 640 (ink (less-stage)) (ink (less-stage)) (c .draw-inverters .last .sheet) d5 refl refl (c .draw-inverters .ensures) in
+    let x6 : List ℕ = x5 ++ ink less-stage in
+    let d6 : Drew w0 0 x6 w6 = drew-then w0 x5 w5 640 (ink less-stage) (ink less-stage) (c .draw-inverters .last .sheet) d5 refl refl (c .draw-inverters .ensures) in
     drew-then w0 x6 w6 642 (ink (zero-gates zero-start HIGH (c .port-port .result))) (ink (zero-gates zero-start HIGH PORT)) (c .draw-zero-test .last .sheet) d6 refl zeros (c .draw-zero-test .ensures)
