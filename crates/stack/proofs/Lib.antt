@@ -1,1 +1,2 @@
--- The proof stands with the function that asks for it.
+-- The theorems across the layers.
+pub mod Joining

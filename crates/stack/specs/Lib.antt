@@ -1,2 +1,3 @@
 -- The promise across the layers.
 pub mod Stack
+pub mod Lamps
