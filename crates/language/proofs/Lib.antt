@@ -1,1 +1,3 @@
 -- Lemmas.
+pub mod Opened
+pub mod Heights
