@@ -13,6 +13,7 @@ use Rattle.language.specs.declared.nodes.Procedure.{Procedure}
 abbrev pub most-nodes : ℕ
 most-nodes = 2000
 
+-- the node with a number
 abbrev pub node-at : List Node → ℕ → Node
 node-at nodes i = getD nodes i (N.Num 0)
 
@@ -90,6 +91,7 @@ Stmt-at nodes i s = (depth : ℕ) × Is-stmt depth nodes i s
 abbrev pub entry-at : List Procedure → ℕ → Procedure
 entry-at table f = getD table f (record { locals = 0; body = 0 })
 
+-- the entry is of the procedure p
 abbrev pub Is-proc : List Node → Procedure → Proc → Type 0
 Is-proc nodes entry p = (entry .locals ≡ p .locals) × Stmt-at nodes (entry .body) (p .body)
 

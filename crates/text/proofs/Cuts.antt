@@ -1,13 +1,13 @@
 -- A text's words from its front. First a blank goes and any other byte joins the first word; then how far the first word
 -- goes, as a loop finds it; then what is cut off: blanks and a word.
-use mathlib.Core.Path.{_≡_, refl, sym, ap, subst, _∙_}
+use mathlib.Core.Path.{_≡_, refl, sym, ap, _∙_}
 use mathlib.Core.Bool.{Bool, true, false, cond}
 use mathlib.Core.List.{List, [], _∷_, _++_, append-assoc, append-nil}
 use Prim.Native.Nat.{ℕ, zero, suc, _+_, _-_, _<_, _≤_}
 use native.Mathlib.Omega.{arith}
 use Rattle.std.proofs.shelf.Tests.{both-ways}
 use lib.ListN.{length, getD, take, drop}
-use Rattle.std.proofs.shelf.Lists.{take-more, drop-more, drop-all, take-all, length-drop, length-take, getD-drop, nil-from-length}
+use Rattle.std.proofs.shelf.Lists.{take-more, drop-more, drop-all, length-drop, length-take, getD-drop, nil-from-length}
 use native.Mathlib.Nat.{add-zero}
 use Rattle.text.specs.Cut.{Cut}
 use Rattle.text.specs.Text.{words, blank, split, close}
@@ -32,9 +32,6 @@ blanks-more s i h b inv = inv ∙ ap words (drop-more s i 0 h) ∙ words-blank (
 pub record Open (s : List ℕ) (i : ℕ) : Type 0 where
   pub word : split s .0 ≡ take i s ++ split (drop i s) .0
   pub rest : split s .1 ≡ split (drop i s) .1
-
-pub open-none : (s : List ℕ) → Open s 0
-open-none s = record { word = refl; rest = refl }
 
 pub open-more : (s : List ℕ) (i : ℕ) → i < length s → blank (getD s i 0) ≡ false → Open s i → Open s (i + 1)
 open-more s i h b o =

@@ -15,7 +15,7 @@ use Rattle.words.proofs.Tests.{T-left, T-right}
 use Rattle.language.specs.Language.{Expr, num, loc, glob, cell, add, sub, nand, less, half, call, Stmt, skip, then, setloc, setglob, setcell, if, while, out, take, Proc, Program}
 use Rattle.text.specs.declared.kinds.Kind.{Kind}
 use Rattle.text.specs.declared.kinds.Kind.the-variants as K
-use Rattle.text.specs.Text.{words, decimal, write-expr, write-stmt, write-procs, write-program, writable, writable-expr, writable-stmt, writable-procs, Reads, One-program}
+use Rattle.text.specs.Text.{words, decimal, write-expr, write-stmt, write-procs, writable, writable-expr, writable-stmt, writable-procs, Reads, One-program}
 use Rattle.text.specs.Kinds.{kind}
 use Rattle.text.specs.Numbers.{digits-value}
 use Rattle.text.proofs.Decimals.{value-decimal}

@@ -76,9 +76,6 @@ pub record Number-so-far (w : List ℕ) (i n : ℕ) : Type 0 where
   pub none : i ≡ 0 → n ≡ 0
   pub some : 0 < i → take i w ≡ decimal n
 
-pub number-none : (w : List ℕ) → Number-so-far w 0 0
-number-none w = record { small = omega arith; none = λ e. refl; some = λ h. no (omega arith) }
-
 pub number-more : (w : List ℕ) (i n : ℕ) → i < length w → 48 ≤ getD w i 0 → getD w i 0 < 58 → (0 < i → 0 < n) → n ≤ 9999 → Number-so-far w i n → Number-so-far w (i + 1) (n * 10 + (getD w i 0 - 48))
 number-more w zero n h lo hi z b r =
     let c = getD w 0 0 in let n0 : n ≡ 0 = r .none refl in

@@ -4,7 +4,6 @@ use mathlib.Core.Bool.{Bool, true, false, _&&_}
 use mathlib.Core.List.{List}
 use Prim.Native.Nat.{ℕ}
 use lib.Dec.{T, leb}
-use Rattle.std.specs.declared.option.Option.{Option}
 use Rattle.std.specs.declared.option.Option.the-variants.{Some, None}
 use Rattle.std.proofs.shelf.Tests.{both-ways}
 use Rattle.words.proofs.Tests.{T-true, true-T, not-nothing}
@@ -12,7 +11,7 @@ use Rattle.language.specs.Language.{Program}
 use Rattle.text.specs.declared.reader.Reader.{Reader}
 use Rattle.text.specs.declared.judge.Verdict.{Verdict}
 use Rattle.text.specs.declared.judge.Verdict.the-variants as V
-use Rattle.text.specs.Text.{words, write-program, Reads, fits, most-signs}
+use Rattle.text.specs.Text.{words, Reads, fits, most-signs}
 use Rattle.text.specs.Verdicts.{Judged, Verdict-is}
 use Rattle.text.specs.Reading.{run, fresh, done}
 use Rattle.text.proofs.Decode.{one-program}

@@ -1,14 +1,14 @@
 -- From the words of a text to the trees of its program: within the limits the bare nodes of the words are those of the
 -- program's procedures, and once linked they are its trees.
-use mathlib.Core.Path.{_≡_, refl, sym, ap, subst, _∙_}
+use mathlib.Core.Path.{_≡_, refl, sym, ap, _∙_}
 use mathlib.Core.Bool.{true, false, _&&_}
 use mathlib.Core.List.{List, [], _∷_, _++_, append-nil}
-use Prim.Native.Nat.{ℕ, zero, suc, _+_, _≤_}
+use Prim.Native.Nat.{ℕ, _≤_}
 use native.Mathlib.Omega.{arith}
 use lib.ListN.{length, take, drop}
 use lib.Dec.{T, leb}
 use Rattle.std.specs.declared.option.Option.the-variants.{Some}
-use Rattle.std.proofs.shelf.Lists.{length-take-le, take-append-drop}
+use Rattle.std.proofs.shelf.Lists.{take-append-drop}
 use Rattle.std.proofs.shelf.Tests.{and-parts, and-from, leb-true, le-leb, both-ways}
 use Rattle.words.proofs.Slots.{Slot}
 use Rattle.words.proofs.Tests.{T-left, T-right, true-T}
@@ -28,7 +28,7 @@ use Rattle.text.proofs.Decimals.{number-of-decimal}
 use Rattle.text.proofs.Written.{Knows}
 use Rattle.text.proofs.Judging.{is-done, program-read}
 use Rattle.text.proofs.Fillings.{bare-nodes-number}
-use Rattle.text.proofs.Rows.{row-procs, length-procs, rows-procs}
+use Rattle.text.proofs.Rows.{row-procs, rows-procs}
 use Rattle.text.proofs.Trees.{tree-procs}
 
 -- where nothing is owed, the nodes written are all

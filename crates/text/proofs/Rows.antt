@@ -80,10 +80,6 @@ length-stmt (if e a b) = two-lengths _ _ _ _ (length-expr e) (omega (arith, leng
 length-stmt (while e a) = two-lengths _ _ _ _ (length-expr e) (length-stmt a)
 length-stmt (out e) = one-length _ _ (length-expr e)
 
-pub length-procs : (ps : List Proc) → length (row-procs ps) ≡ signs ps
-length-procs [] = refl
-length-procs (p ∷ ps) = two-lengths _ _ _ _ (length-stmt (p .body)) (length-procs ps)
-
 -- the nodes of words, in short
 abbrev nodes-of : List (List ℕ) → List Node
 nodes-of ws = bare-nodes ws .1

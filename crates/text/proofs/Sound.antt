@@ -1,7 +1,7 @@
 -- Words that are read to their end are the writing of a program. First what it means that words write what is owed; then,
 -- for each word, that it and what follows write what was owed before it; then the program.
 use mathlib.Core.Path.{_≡_, refl, sym, ap, subst, _∙_}
-use mathlib.Core.Bool.{Bool, true, false, _&&_}
+use mathlib.Core.Bool.{_&&_}
 use mathlib.Core.List.{List, [], _∷_, _++_, append-assoc}
 use Prim.Native.Nat.{ℕ, zero, suc}
 use lib.ListN.{length}
@@ -17,7 +17,7 @@ use Rattle.text.specs.declared.reader.Use.the-variants.{Globals, Cells, Procs,
 use Rattle.text.specs.declared.reader.Need.{Need}
 use Rattle.text.specs.declared.reader.Need.the-variants.{Start, Number, Owed}
 use Rattle.text.specs.declared.reader.Reader.{Reader}
-use Rattle.text.specs.Text.{words, decimal, write-expr, write-stmt, write-procs, write-program, writable, writable-expr, writable-stmt, writable-procs, writable-program, w-then, w-setcell, w-if, w-while, w-out, w-take, w-program, w-proc}
+use Rattle.text.specs.Text.{decimal, write-expr, write-stmt, write-procs, write-program, writable, writable-expr, writable-stmt, writable-procs, writable-program, w-then, w-setcell, w-if, w-while, w-out, w-take, w-program, w-proc}
 use Rattle.text.specs.Kinds.{kind, spelled}
 use Rattle.text.specs.Numbers.{number-of}
 use Rattle.text.specs.Shapes.{shape}

@@ -2,11 +2,10 @@
 use mathlib.Core.Path.{_≡_, refl, sym, ap, subst, _∙_}
 use mathlib.Core.List.{List, [], _∷_}
 use mathlib.Core.Logic.{⊎-elim}
-use mathlib.Core.Option.{some, none}
+use mathlib.Core.Option.{some}
 use Prim.Native.Nat.{ℕ, zero, suc, _+_, _<_, _≤_}
 use native.Mathlib.Omega.{arith}
-use native.Mathlib.Numerals.{add-one}
-use lib.ListN.{length, getD, set, drop}
+use lib.ListN.{length, set, drop}
 use Rattle.std.proofs.shelf.Lists.{getD-set-same, getD-set-other}
 use Rattle.std.proofs.shelf.Tests.{cases-eq}
 use Rattle.language.specs.Language.{Stmt, Proc, proc-at}
@@ -40,9 +39,6 @@ stands-inside nodes i s h = go (h .0) (h .1)
 pub record Tabled (nodes : List Node) (table : List Procedure) (i f : ℕ) (ps : List Proc) : Type 0 where
   pub left : Procs-at nodes i (drop f ps)
   pub right : (j : ℕ) (p : Proc) → j < f → proc-at ps j ≡ some p → Is-proc nodes (entry-at table j) p
-
-pub tabled-none : (nodes : List Node) (table : List Procedure) (ps : List Proc) → Procs-at nodes 0 ps → Tabled nodes table 0 0 ps
-tabled-none nodes table ps h = record { left = h; right = λ j p b. (let no : ⊥ = omega arith in absurd no) }
 
 -- what stands at the next procedure's node
 pub record Next (nodes : List Node) (i f : ℕ) (ps : List Proc) : Type 0 where

@@ -77,7 +77,7 @@ has-node Local = true
 has-node Global = true
 has-node Callee = true
 
--- what a word writes where c signs have been read: a number goes into the last node, a kind makes the next
+-- What a word writes where c signs have been read: a number goes into the last node, a kind makes the next.
 abbrev pub noted-number : Option ℕ → ℕ → List Node → List Node
 noted-number None c nodes = nodes
 noted-number (Some n) c nodes = set nodes (c - 1) (numbered (node-at nodes (c - 1)) (n % 65536))
@@ -91,6 +91,7 @@ noted-at Start c w nodes = nodes
 noted-at (Number u) c w nodes = cond (has-node u) (noted-number (number-of w) c nodes) nodes
 noted-at Owed c w nodes = noted-kind (kind w) c nodes
 
+-- what a word writes that a reader reads
 abbrev pub noted : Reader → List ℕ → List Node → List Node
 noted a w nodes = noted-at (a .need) (a .signs) w nodes
 

@@ -27,7 +27,7 @@ in-front R.Statement d ds = d ∷ ds
 in-front R.Procedure d ds = d ∷ ds
 in-front R.Program d ds = ds
 
--- the number that words begin with, and their bare nodes
+-- The number that words begin with, and their bare nodes: one word before others, and all words.
 abbrev pub before-nodes : Option Kind → List ℕ → ℕ × List Node → ℕ × List Node
 before-nodes None w x = (digits-value 0 w % 65536, x .1)
 before-nodes (Some k) w x = (0, in-front (shape k .role) (numbered (bare k) (x .0)) (x .1))

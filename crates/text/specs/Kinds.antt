@@ -34,6 +34,7 @@ spelled K.Take = w-take
 spelled K.Program = w-program
 spelled K.Proc = w-proc
 
+-- all kinds
 abbrev pub kinds : List Kind
 kinds = K.Num ∷ K.Loc ∷ K.Glob ∷ K.Cell ∷ K.Add ∷ K.Sub ∷ K.Nand ∷ K.Less ∷ K.Half ∷ K.Call ∷ K.Skip ∷ K.Then ∷ K.SetLoc ∷ K.SetGlob ∷ K.SetCell ∷ K.If ∷ K.While ∷ K.Out ∷ K.Take ∷ K.Program ∷ K.Proc ∷ []
 

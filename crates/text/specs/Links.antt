@@ -8,7 +8,7 @@ use Rattle.language.specs.declared.nodes.Node.{Node}
 use Rattle.language.specs.declared.nodes.Node.the-variants as N
 use Rattle.text.specs.Filling.{Same-from}
 
--- the number after the last part of node i
+-- where node i ends, by a list of ends
 abbrev pub end-of : List ℕ → ℕ → ℕ
 end-of ends i = getD ends i 0
 
@@ -35,6 +35,7 @@ with-parts (N.Out j) a b c = N.Out a
 with-parts (N.Take n) a b c = N.Take n
 with-parts (N.Proc n j k) a b c = N.Proc n a b
 
+-- node i with the numbers of its parts
 abbrev pub linked-node : Node → ℕ → List ℕ → Node
 linked-node d i ends = with-parts d (i + 1) (end-of ends (i + 1)) (end-of ends (end-of ends (i + 1)))
 
@@ -66,6 +67,7 @@ abbrev pub past : ℕ → ℕ → List ℕ → ℕ
 past zero i ends = i
 past (suc p) i ends = past p (end-of ends i) ends
 
+-- the number after the last part of node i
 abbrev pub node-end : Node → ℕ → List ℕ → ℕ
 node-end d i ends = past (parts d) (i + 1) ends
 

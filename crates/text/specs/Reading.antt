@@ -19,6 +19,7 @@ use Rattle.text.specs.Kinds.{kind}
 use Rattle.text.specs.Numbers.{number-of}
 use Rattle.text.specs.Shapes.{shape}
 
+-- go on with what there is, if there is anything
 abbrev pub and-then : {A B : Type 0} → Option A → (A → Option B) → Option B
 and-then None f = None
 and-then (Some a) f = f a
@@ -46,6 +47,7 @@ owed-after R.Program e s k m p = None
 abbrev pub moved : Need → Reader → ℕ × ℕ × ℕ → Reader
 moved n a t = record { need = n; exprs = t .0; stmts = t .1; procs = t .2; globals = a .globals; cells = a .cells; count = a .count; locals = a .locals; signs = a .signs + 1; fits = a .fits }
 
+-- a word of a shape, if it begins what is owed first
 abbrev pub enter : Shape → Reader → Option Reader
 enter h a = and-then (owed-after (h .role) (h .exprs) (h .stmts) (a .exprs) (a .stmts) (a .procs)) (λ t. Some (moved (h .next) a t))
 
@@ -54,21 +56,23 @@ abbrev pub enter-word : Option Kind → Reader → Option Reader
 enter-word None a = None
 enter-word (Some k) a = enter (shape k) a
 
--- the first word
+-- another need, and nothing else changed
 abbrev pub with-need : Need → Reader → Reader
 with-need n a = record { need = n; exprs = a .exprs; stmts = a .stmts; procs = a .procs; globals = a .globals; cells = a .cells; count = a .count; locals = a .locals; signs = a .signs; fits = a .fits }
 
+-- the first word has to begin a program
 abbrev pub begun : Role → Reader → Option Reader
 begun R.Expression a = None
 begun R.Statement a = None
 begun R.Procedure a = None
 begun R.Program a = Some (with-need (Number Globals) a)
 
+-- a word where the program begins
 abbrev pub begin-word : Option Kind → Reader → Option Reader
 begin-word None a = None
 begin-word (Some k) a = begun (shape k .role) a
 
--- a number that nothing but the limits depends on
+-- a number that is within the limits or not; what is owed comes next
 abbrev pub judged : Reader → Bool → Reader
 judged a ok = record { need = Owed; exprs = a .exprs; stmts = a .stmts; procs = a .procs; globals = a .globals; cells = a .cells; count = a .count; locals = a .locals; signs = a .signs; fits = a .fits && ok }
 
@@ -83,10 +87,12 @@ taken Local n a = judged a (ltb n (a .locals))
 taken Global n a = judged a (ltb n (a .globals))
 taken Callee n a = judged a (ltb n (a .count))
 
+-- a word where a number is needed
 abbrev pub take-number : Use → Option ℕ → Reader → Option Reader
 take-number u None a = None
 take-number u (Some n) a = Some (taken u n a)
 
+-- a word, by what is needed
 abbrev pub step-at : Need → List ℕ → Reader → Option Reader
 step-at Start w a = begin-word (kind w) a
 step-at (Number u) w a = take-number u (number-of w) a
@@ -96,6 +102,7 @@ step-at Owed w a = enter-word (kind w) a
 abbrev pub step : List ℕ → Reader → Option Reader
 step w a = step-at (a .need) w a
 
+-- all words, one after the other
 abbrev pub run : List (List ℕ) → Reader → Option Reader
 run [] a = Some a
 run (w ∷ ws) a = and-then (step w a) (run ws)

@@ -9,9 +9,11 @@ use Rattle.text.specs.declared.reader.Need.{Need}
 use Rattle.text.specs.declared.reader.Need.the-variants.{Number, Owed}
 use Rattle.text.specs.declared.reader.Shape.{Shape}
 
+-- a shape, from its parts
 abbrev pub begins : Role → Need → ℕ → ℕ → Shape
 begins role next exprs stmts = record { role = role; next = next; exprs = exprs; stmts = stmts }
 
+-- the table of the language's words
 abbrev pub shape : Kind → Shape
 shape K.Num = begins R.Expression (Number Value) 0 0
 shape K.Loc = begins R.Expression (Number Local) 0 0

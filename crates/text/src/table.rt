@@ -1,5 +1,5 @@
 // The table of procedures, by number, made from the nodes: each procedure's node stands after the body of the one before.
-ghost use Prim.Native.Nat.{ℕ, _≤_};
+ghost use Prim.Native.Nat.{_≤_};
 ghost use Rattle.language.specs.Language.{Proc};
 ghost use Rattle.language.specs.Nodes.{Holds};
 ghost use Rattle.text.specs.Text.{most-procs};

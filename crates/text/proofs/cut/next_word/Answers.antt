@@ -1,7 +1,7 @@
 use Rattle.text.proofs.Cuts.{cut-none, cut-some, starts-letter}
 use Rattle.std.proofs.shelf.Lists.{take-rest}
 use Rattle.std.proofs.shelf.Tests.{eqb-true, eqb-false}
-use mathlib.Core.Path.{sym, _≡_}
+use mathlib.Core.Path.{sym}
 use mathlib.Core.List.{List}
 use mathlib.Core.Logic.{_≢_}
 use Prim.Native.Nat.{ℕ, _-_, _<_}

@@ -1,5 +1,4 @@
 use mathlib.Core.Path.{_∙_, sym}
-use mathlib.Core.Bool.{true, false}
 use Rattle.std.proofs.shelf.Equals.{matches-decides}
 use Rattle.std.proofs.shelf.Tests.{both-ways}
 use Rattle.text.proofs.Spellings.{lookup-hit, lookup-miss, lookup-end}

@@ -2,7 +2,6 @@ use mathlib.Core.Path.{sym, _≡_, subst}
 use Prim.Native.Nat.{ℕ}
 use native.Mathlib.Omega.{arith}
 use lib.ListN.{length}
-use borrow.Author.Needs.{needs}
 use Rattle.std.proofs.shelf.Tests.{eqb-true, eqb-false}
 use Rattle.text.proofs.Digits.{Number-so-far, number-more, number-all, no-number-empty, no-number-letter, no-number-zero, no-number-long}
 use Rattle.text.proofs.numbers.number.Needs as need

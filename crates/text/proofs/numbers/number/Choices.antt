@@ -1,4 +1,4 @@
-use Rattle.text.proofs.Digits.{Number-so-far, number-more, number-all, no-number-empty, no-number-letter, no-number-zero, no-number-long}
+use Rattle.text.proofs.Digits.{Number-so-far}
 use Rattle.text.proofs.numbers.number.Given as given
 
 abbrev pub Inv-loop-i : given.InvT-loop-i

@@ -1,10 +1,7 @@
-use mathlib.Core.Path.{_≡_, sym, _∙_}
-use mathlib.Core.List.{List}
-use Prim.Native.Nat.{ℕ, _<_}
+use mathlib.Core.Path.{_∙_}
 use native.Mathlib.Omega.{arith}
-use lib.ListN.{length}
 use Rattle.std.proofs.shelf.Lists.{length-set}
-use Rattle.text.proofs.Tables.{Next, next-proc, tabled-none, tabled-more, tabled-all, same-entries-more}
+use Rattle.text.proofs.Tables.{next-proc, tabled-more, tabled-all, same-entries-more}
 use Rattle.text.proofs.table.tabulate.Needs as need
 
 pub offset-nodes-at : need.offset-nodes-at
