@@ -8,3 +8,4 @@ pub mod Cuts
 pub mod Ticking
 pub mod Along
 pub mod Spinning
+pub mod Pieces

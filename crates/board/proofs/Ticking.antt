@@ -43,7 +43,7 @@ ticks-first zero c b h = absurd (omega arith)
 ticks-first (suc n) c b h = let e : n ≡ suc n - 1 = omega arith in ap (λ (m : ℕ). ticks m c (tick c b)) e
 
 -- boards are equal where their parts are
-same-board : {s s′ : List Bool} {m m′ : List ℕ} {r r′ : ℕ} {t t′ o o′ : List ℕ} {h h′ : ℕ} → s ≡ s′ → m ≡ m′ → r ≡ r′ → t ≡ t′ → o ≡ o′ → h ≡ h′
+pub same-board : {s s′ : List Bool} {m m′ : List ℕ} {r r′ : ℕ} {t t′ o o′ : List ℕ} {h h′ : ℕ} → s ≡ s′ → m ≡ m′ → r ≡ r′ → t ≡ t′ → o ≡ o′ → h ≡ h′
     → _≡_ {A = Board} (record { state = s; mem = m; read = r; tape = t; out = o; halted = h }) (record { state = s′; mem = m′; read = r′; tape = t′; out = o′; halted = h′ })
 same-board a b d e f g = cc
 

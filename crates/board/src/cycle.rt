@@ -87,7 +87,8 @@ fn evaluate(
     ahead: u16,
     work: &mut [u8],
 ) -> Pins
-    requires { ⌜ Sound-parts (now wires) (now next) (now pins) (length (now state)) (length (now work)) ⌝ }
+    requires sound { ⌜ Sound-parts (now wires) (now next) (now pins) (length (now state)) (length (now work)) ⌝ }
+    requires clean { ⌜ Clean (now state) ⌝ }
     ensures shown { λ r. ⌜ Shown (map (bit-at (settle (pairs (now (wires .entry))) (inputs read ahead (levels (now (state .entry)))))) (now (pins .entry))) r ⌝ }
     ensures next { λ _. ⌜ now (state .exit) ≡ bytes (map (bit-at (settle (pairs (now (wires .entry))) (inputs read ahead (levels (now (state .entry)))))) (now (next .entry))) ⌝ }
 {
@@ -112,6 +113,7 @@ fn one_cycle(
     port: Port,
 ) -> Option<Port>
     requires sound { ⌜ Sound-parts (now wires) (now next) (now pins) (length (now state)) (length (now work)) ⌝ }
+    requires clean { ⌜ Clean (now state) ⌝ }
     requires memory { ⌜ length (now mem) ≡ memory-size ⌝ }
     requires taken { ⌜ port .taken ≤ length (now tape) ⌝ }
     requires sent { ⌜ port .sent ≤ length (now out) ⌝ }

@@ -2,17 +2,25 @@
 ghost use Rattle.board.specs.Board.{asked, lent, SpunPost};
 
 mod cycle;
+mod laws;
 mod pins;
 mod sheet;
 mod signals;
 mod start;
 
 use cycle::run;
+pub use laws::halted_stays;
+pub use laws::one_word_a_cycle;
+pub use laws::pieces_join;
+pub use laws::room_suffices;
+pub use laws::spins_join;
 use sheet::MEMORY_SIZE;
 use sheet::PIN_COUNT;
 use sheet::sheet_sound;
 use sheet::signal_count;
 use signals::make_levels;
+pub use start::Power;
+pub use start::power_on;
 
 // How some cycles went: the word that memory hands over next, how many words of the tape were taken, how many were put
 // out, and how the board halted.

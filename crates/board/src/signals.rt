@@ -33,16 +33,18 @@ fn lay_word(work: &mut [u8], at: usize, word: u16)
 // Lays the flip-flops' levels, from `at` on.
 fn lay_state(work: &mut [u8], at: usize, state: &[u8])
     requires room { ⌜ at + length (now state) ≤ length (now work) ⌝ }
+    requires clean { ⌜ Clean (now state) ⌝ }
     ensures { λ _. ⌜ take (at + length (now (state .entry))) (now (work .exit)) ≡ take at (now (work .entry)) ++ bytes (levels (now (state .entry))) ⌝ }
 {
     for i in 0..state.len() {
-        work[at + i] = if state[i] != 0 { 1 } else { 0 };
+        work[at + i] = state[i];
     }
 }
 
 // Lays the signals before the gates: low, high, the word handed over, the tape's next word, the flip-flops.
 pub fn lay_inputs(work: &mut [u8], read: u16, front: u16, state: &[u8])
     requires room { ⌜ input-signals + length (now state) ≤ length (now work) ⌝ }
+    requires clean { ⌜ Clean (now state) ⌝ }
     ensures { λ _. ⌜ take (input-signals + length (now (state .entry))) (now (work .exit)) ≡ bytes (inputs read front (levels (now (state .entry)))) ⌝ }
 {
     work[0] = 0;
@@ -74,16 +76,14 @@ pub fn settle_gates(wires: &[u32], base: usize, work: &mut [u8])
     ensures { λ _. ⌜ now (work .exit) ≡ bytes (settle (pairs (now (wires .entry))) (levels (take base (now (work .entry))))) ⌝ }
 {
     let gates = work.len() - base;
-    let mut i = 0;
-    'eights: while i + 8 <= gates {
+    let turns = gates / 8;
+    'turns: for turn in 0..turns {
         'eight: for j in 0..8 {
-            settle_gate(wires, base, i + j, work);
+            settle_gate(wires, base, 8 * turn + j, work);
         }
-        i += 8;
     }
-    'ones: while i < gates {
+    'others: for i in 8 * turns..gates {
         settle_gate(wires, base, i, work);
-        i += 1;
     }
 }
 

@@ -14,9 +14,9 @@ use Rattle.board.proofs.cycle.evaluate.Needs as need
 
 pub settle-gates-requires : need.settle-gates-requires
 settle-gates-requires c κs = record {
-  base = omega (arith, c .pre .room);
-  wires = omega (arith, c .pre .wires-all);
-  sound = c .pre .wires-sound;
+  base = omega (arith, c .pre .sound .room);
+  wires = omega (arith, c .pre .sound .wires-all);
+  sound = c .pre .sound .wires-sound;
   clean = clean-of _ (inputs (c .args .read) (c .args .ahead) (levels (c .args .state .now))) (c .lay-inputs .ensures);
 }
 
@@ -25,8 +25,8 @@ read-pins-shown-requires c κs =
     let same : length (c .args .work .now) ≡ length (c .settle-gates .last .work) = omega arith in
     let levels-in = inputs (c .args .read) (c .args .ahead) (levels (c .args .state .now)) in
     record {
-      all = c .pre .pins-all;
-      there = subst (λ (n : ℕ). All-below (c .args .pins .now) n) same (c .pre .pins-sound);
+      all = c .pre .sound .pins-all;
+      there = subst (λ (n : ℕ). All-below (c .args .pins .now) n) same (c .pre .sound .pins-sound);
       clean = clean-of _ (settle (pairs (c .args .wires .now)) levels-in) (settled (c .args .wires .now) (c .lay-inputs .last .work) _ (input-signals + length (c .args .state .now)) levels-in (c .lay-inputs .ensures) (c .settle-gates .ensures));
     }
 
@@ -35,8 +35,8 @@ latch-requires c κs =
     let same : length (c .args .work .now) ≡ length (c .settle-gates .last .work) = omega arith in
     let levels-in = inputs (c .args .read) (c .args .ahead) (levels (c .args .state .now)) in
     record {
-      all = c .pre .next-all;
-      there = subst (λ (n : ℕ). All-below (c .args .next .now) n) same (c .pre .next-sound);
+      all = c .pre .sound .next-all;
+      there = subst (λ (n : ℕ). All-below (c .args .next .now) n) same (c .pre .sound .next-sound);
       clean = clean-of _ (settle (pairs (c .args .wires .now)) levels-in) (settled (c .args .wires .now) (c .lay-inputs .last .work) _ (input-signals + length (c .args .state .now)) levels-in (c .lay-inputs .ensures) (c .settle-gates .ensures));
     }
 
