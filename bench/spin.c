@@ -97,7 +97,7 @@ static int by_size(const void *a, const void *b) {
     return x < y ? -1 : x > y;
 }
 
-enum { FLOPS = 150, GATES = 2000, ROUNDS = 15, CYCLES = 100000 };
+enum { FLOPS = 150, GATES = 2000, ROUNDS = 201, CYCLES = 10000 };
 
 static int timed(const char *name, uint32_t near) {
     static uint32_t sheet[2 * FLOPS + 2 * GATES + PINS];
@@ -109,7 +109,7 @@ static int timed(const char *name, uint32_t near) {
     for (int i = 33; i < PINS; i++)
         if (i != 34) sheet[2 * FLOPS + 2 * GATES + i] = 0;
     for (int i = 0; i < 1000; i++) tape[i] = below(65536);
-    double took[2][ROUNDS];
+    double took[2][ROUNDS], ratio[ROUNDS];
     for (int round = 0; round < ROUNDS; round++) {
         uint8_t state[2][FLOPS] = {{0}};
         uint64_t port[2][4];
@@ -124,11 +124,13 @@ static int timed(const char *name, uint32_t near) {
         }
         if (memcmp(state[0], state[1], FLOPS) || memcmp(mem[0], mem[1], sizeof mem[0]) || memcmp(port[0], port[1], 32))
             return printf("%s: the two differ\n", name), 1;
+        ratio[round] = took[1][round] / took[0][round];
     }
     for (int side = 0; side < 2; side++) qsort(took[side], ROUNDS, sizeof(double), by_size);
-    double spin = took[0][ROUNDS / 2], plain = took[1][ROUNDS / 2];
-    printf("%-7s spin %7.0f cycles a second, C %7.0f, ratio %.3f (medians of %d rounds, alternating; best %.0f and %.0f)\n",
-           name, CYCLES / spin, CYCLES / plain, plain / spin, ROUNDS, CYCLES / took[0][0], CYCLES / took[1][0]);
+    qsort(ratio, ROUNDS, sizeof(double), by_size);
+    printf("%-7s spin %7.0f cycles a second, C %7.0f, ratio %.3f (medians of %d rounds, in turn; best %.0f and %.0f)\n",
+           name, CYCLES / took[0][ROUNDS / 2], CYCLES / took[1][ROUNDS / 2], ratio[ROUNDS / 2], ROUNDS,
+           CYCLES / took[0][0], CYCLES / took[1][0]);
     return 0;
 }
 
@@ -191,6 +193,6 @@ static int compared(int count) {
 }
 
 int main(int argc, char **argv) {
-    if (argc > 1 && !strcmp(argv[1], "--compare")) return compared(20000);
+    if (argc > 1 && !strcmp(argv[1], "--compare")) return compared(100000);
     return timed("random", 0) | timed("local", 40);
 }

@@ -43,13 +43,15 @@ level-in-place-more state all i y l ey e =
     ap (λ (t : List ℕ). take (i + 1) (set state i y) ++ bytes (levels t)) (drop-set-lt (i + 1) state i y n) ∙ level-more state state all i i y l l ey e
 
 -- the flip-flops' next levels
-pub latch-more : (w state next all : List ℕ) (i : ℕ) → Clean w → i < length state → i < length next → take i state ++ bytes (on-signals w (drop i next)) ≡ all
-    → take (i + 1) (set state i (getD w (getD next i 0) 0)) ++ bytes (on-signals w (drop (i + 1) next)) ≡ all
-latch-more w state next all i h l li e =
+pub latch-more : (w state next all : List ℕ) (i j : ℕ) → Clean w → i < length state → i < length next → i + 1 ≡ j → take i state ++ bytes (on-signals w (drop i next)) ≡ all
+    → take j (set state i (getD w (getD next i 0) 0)) ++ bytes (on-signals w (drop j next)) ≡ all
+latch-more w state next all i j h l li ej e =
+    let y = getD w (getD next i 0) 0 in
     let left = bytes (on-signals w (drop (i + 1) next)) in
-    fill-more state i (getD w (getD next i 0) 0) left all l
+    subst (λ (k : ℕ). take k (set state i y) ++ bytes (on-signals w (drop k next)) ≡ all) ej
+    (fill-more state i y left all l
     (ap (λ (t : ℕ). take i state ++ (t ∷ left)) (clean-at w (getD next i 0) h)
-    ∙ subst (λ (d : List ℕ). take i state ++ bytes (on-signals w d) ≡ all) (drop-more next i 0 li) e)
+    ∙ subst (λ (d : List ℕ). take i state ++ bytes (on-signals w d) ≡ all) (drop-more next i 0 li) e))
 
 -- signals 0 and 1
 pub low-high : (w : List ℕ) → 2 ≤ length w → take 2 (set (set w 0 0) 1 1) ≡ 0 ∷ (1 ∷ [])

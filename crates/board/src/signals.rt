@@ -76,25 +76,39 @@ pub fn settle_gates(wires: &[u32], base: usize, work: &mut [u8])
     ensures { λ _. ⌜ now (work .exit) ≡ bytes (settle (pairs (now (wires .entry))) (levels (take base (now (work .entry))))) ⌝ }
 {
     let gates = work.len() - base;
-    let turns = gates / 8;
-    'turns: for turn in 0..turns {
+    let mut i = 0;
+    let mut turns = gates / 8;
+    'turns: while turns > 0 {
         'eight: for j in 0..8 {
-            settle_gate(wires, base, 8 * turn + j, work);
+            settle_gate(wires, base, i + j, work);
         }
+        i += 8;
+        turns -= 1;
     }
-    'others: for i in 8 * turns..gates {
+    'others: while i < gates {
         settle_gate(wires, base, i, work);
+        i += 1;
     }
 }
 
-// Hands each flip-flop the level of its next signal.
+// Hands each flip-flop the level of its next signal, eight a turn.
 pub fn latch(work: &[u8], next: &[u32], state: &mut [u8])
     requires all { ⌜ length (now next) ≡ length (now state) ⌝ }
     requires there { ⌜ All-below (now next) (length (now work)) ⌝ }
     requires clean { ⌜ Clean (now work) ⌝ }
     ensures { λ _. ⌜ now (state .exit) ≡ bytes (on-signals (now (work .entry)) (now (next .entry))) ⌝ }
 {
-    for i in 0..state.len() {
+    let mut i = 0;
+    let mut turns = state.len() / 8;
+    'turns: while turns > 0 {
+        'eight: for j in 0..8 {
+            state[i + j] = work[next[i + j] as usize];
+        }
+        i += 8;
+        turns -= 1;
+    }
+    'others: while i < state.len() {
         state[i] = work[next[i] as usize];
+        i += 1;
     }
 }
