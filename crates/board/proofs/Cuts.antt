@@ -7,7 +7,7 @@ use native.Mathlib.Omega.{arith}
 use lib.ListN.{length, take, drop}
 use Rattle.std.proofs.shelf.Lists.{length-take-le, length-drop}
 use Rattle.words.specs.Words.{memory-size}
-use Rattle.circuit.specs.Circuit.{Circuit, Sound-gates, All-below, input-signals, pin-count}
+use Rattle.circuit.specs.Circuit.{Sound-gates, All-below, input-signals, pin-count}
 use Rattle.circuit.specs.Sheet.{pairs, levels, drawn, sheet-size}
 use Rattle.board.specs.Board.{Fits}
 use Rattle.board.specs.Slices.{Tells, Sound-sheet, Sound-parts}

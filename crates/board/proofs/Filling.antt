@@ -2,13 +2,12 @@
 -- word's bits, the flip-flops, their next levels, and all inputs of the gates one after the other.
 use mathlib.Core.Path.{_≡_, refl, sym, _∙_, ap, subst}
 use mathlib.Core.Bool.{Bool, true, false}
-use mathlib.Core.List.{List, [], _∷_, _++_, map}
+use mathlib.Core.List.{List, [], _∷_, _++_}
 use Prim.Native.Nat.{ℕ, suc, _+_, _-_, _/_, _%_, _<_, _≤_}
 use native.Mathlib.Omega.{arith}
 use lib.ListN.{length, take, drop, getD, set}
 use Rattle.std.proofs.shelf.Lists.{take-more-set, drop-more, append-assoc, append-nil, drop-set-lt}
-use Rattle.words.specs.Words.{bit, bits, bit-at}
-use Rattle.circuit.specs.Circuit.{input-signals}
+use Rattle.words.specs.Words.{bit, bits}
 use Rattle.circuit.specs.Sheet.{level, levels}
 use Rattle.board.specs.Slices.{bytes, Clean, on-signals}
 use Rattle.board.proofs.Bytes.{bytes-append, clean-at, lowest-bit}

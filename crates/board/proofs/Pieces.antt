@@ -11,8 +11,8 @@ use Rattle.words.specs.Words.{bit-at}
 use Rattle.words.specs.Runs.{running}
 use Rattle.circuit.specs.Circuit.{Circuit, Board, cycle, tick, ticks, unless-halted, pin-levels, datum, emit-pin}
 use Rattle.circuit.specs.Sheet.{drawn}
-use Rattle.board.specs.Board.{laid, Left, Stands, Asked, Lent, SpunPost}
-use Rattle.board.specs.Laws.{handed-on, shown-after, both-left, Pieces-join, Halted-stays, Spins-join, One-word-a-cycle, Room-suffices}
+use Rattle.board.specs.Board.{laid, Stands}
+use Rattle.board.specs.Laws.{handed-on, shown-after, Pieces-join, Halted-stays, Spins-join, Halted-spin-stays, One-word-a-cycle, Room-suffices}
 use Rattle.board.proofs.Ticking.{same-board, ticks-halted}
 
 -- m + n cycles are m cycles and then n
@@ -75,6 +75,12 @@ spins-join c m n state mem read tape one two s z t =
           ∙ (ap (λ (ws : List ℕ). at .out ++ ws) (t .out-is) ∙ ap (λ (x : Board). x .out) all));
       halt-is = t .halt-is ∙ ap (λ (x : Board). x .halted) all;
     }
+
+pub halted-spin-stays : Halted-spin-stays
+halted-spin-stays c m n state mem read tape one s h =
+    let start = laid state mem read tape in
+    let halted : 0 < ticks m c start .halted = omega (arith, s .halt-is) in
+    subst (λ (b : Board). Stands b tape one) (sym (halted-stays c start m n halted)) s
 
 -- a cycle puts out at most one word
 cond-one : (e : Bool) (xs : List ℕ) (x : ℕ) → length (cond e (xs ++ (x ∷ [])) xs) ≤ length xs + 1

@@ -6,10 +6,9 @@ use Prim.Native.Nat.{ℕ, zero, suc, _+_, _-_, _<_, _≤_}
 use native.Mathlib.Omega.{arith}
 use lib.ListN.{length, take, drop}
 use Rattle.std.proofs.shelf.Lists.{length-append, drop-all}
-use Rattle.words.specs.Words.{value, bit-at, word, put, front, rest}
+use Rattle.words.specs.Words.{bit-at, word, put, rest}
 use Rattle.words.specs.Runs.{running}
-use Rattle.words.proofs.Lists.{rest-drop}
-use Rattle.circuit.specs.Circuit.{Circuit, Board, cycle, tick, ticks, unless-halted, pin-levels, signals, address, datum, store-pin, emit-pin, take-pin, halt-pins}
+use Rattle.circuit.specs.Circuit.{Circuit, Board, cycle, tick, ticks, unless-halted, pin-levels, signals, address, datum, store-pin, emit-pin}
 use Rattle.circuit.specs.Sheet.{levels}
 use Rattle.board.specs.Slices.{Shown, standing}
 use Rattle.board.specs.declared.pins.Pins.{Pins}

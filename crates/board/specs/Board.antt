@@ -6,7 +6,7 @@ use Prim.Native.Nat.{ℕ, _+_, _<_, _≤_}
 use lib.ListN.{length, take, drop}
 use Rattle.words.specs.Words.{All, memory-size}
 use Rattle.words.specs.Runs.{running}
-use Rattle.circuit.specs.Circuit.{Circuit, Whole, Board, ticks, power-on, input-signals}
+use Rattle.circuit.specs.Circuit.{Whole, Board, ticks, power-on, input-signals}
 use Rattle.circuit.specs.Sheet.{drawn, levels, sheet-size}
 use Rattle.board.specs.declared.Spun.{Spun}
 use Rattle.board.specs.declared.Spun.the-variants.{Ran, BadSheet, NoOut, FewWork}

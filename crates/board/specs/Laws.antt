@@ -58,6 +58,14 @@ Spins-join =
     → Stands (ticks n c (laid (one .state) (one .mem) (one .read) (drop (one .taken) tape))) (drop (one .taken) tape) two
     → Stands (ticks (m + n) c (laid state mem read tape)) tape (both-left one two)
 
+-- And where the first piece has halted, it is what any more cycles leave too.
+abbrev pub Halted-spin-stays : Type 0
+Halted-spin-stays =
+    (c : Circuit) (m n : ℕ) (state mem : List ℕ) (read : ℕ) (tape : List ℕ) (one : Left)
+    → Stands (ticks m c (laid state mem read tape)) tape one
+    → 0 < one .halted
+    → Stands (ticks (m + n) c (laid state mem read tape)) tape one
+
 -- n cycles put out at most n words more,
 abbrev pub One-word-a-cycle : Type 0
 One-word-a-cycle = (c : Circuit) (b : Board) (n : ℕ) → length (ticks n c b .out) ≤ length (b .out) + n

@@ -3,10 +3,10 @@ use mathlib.Core.Path.{_≡_}
 use mathlib.Core.Bool.{Bool, true, false, cond}
 use mathlib.Core.List.{List, [], _∷_, _++_, map}
 use Prim.Native.Nat.{ℕ, _+_, _-_, _*_, _^_, _<_, _≤_}
-use lib.ListN.{length, take, drop, getD, set}
+use lib.ListN.{length, take, drop, getD}
 use lib.Bits.{bitAnd, bitXor}
-use Rattle.words.specs.Words.{bit, bits, value, bit-at, memory-size}
-use Rattle.circuit.specs.Circuit.{Circuit, Board, Sound-gates, All-below, address, datum, input-signals, pin-count, store-pin, emit-pin, take-pin, halt-pins}
+use Rattle.words.specs.Words.{bit, value, bit-at}
+use Rattle.circuit.specs.Circuit.{Circuit, Board, inputs, settle, Sound-gates, All-below, address, datum, input-signals, pin-count, store-pin, emit-pin, take-pin, halt-pins}
 use Rattle.circuit.specs.Sheet.{pairs, levels, sheet-size}
 use Rattle.board.specs.declared.pins.Pins.{Pins}
 use Rattle.board.specs.declared.cycle.Port.{Port}
@@ -39,6 +39,10 @@ on-signals work numbers = map (bit-at (levels work)) numbers
 -- the gate whose two signals stand at a place of the wires, as bytes
 abbrev pub gate-byte : List ℕ → ℕ → List ℕ → ℕ
 gate-byte wires place work = bitXor (bitAnd (getD work (getD wires place 0) 0) (getD work (getD wires (place + 1) 0) 0)) 1
+
+-- all levels of a cycle, with the word handed over, the word ahead on the tape and the flip-flop bytes
+abbrev pub cycle-levels : List ℕ → ℕ → ℕ → List ℕ → List Bool
+cycle-levels wires read ahead state = settle (pairs wires) (inputs read ahead (levels state))
 
 -- a sheet that holds a sound circuit of f flip-flops and k gates
 pub record Sound-sheet (sheet : List ℕ) (f k : ℕ) : Type 0 where

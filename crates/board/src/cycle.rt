@@ -6,10 +6,9 @@ ghost use Prim.Native.Nat.{_<_, _≤_};
 ghost use lib.ListN.{length, drop};
 ghost use Rattle.words.specs.Words.{bit-at, word, put, front, rest, memory-size};
 ghost use Rattle.words.specs.Runs.{running};
-ghost use Rattle.circuit.specs.Circuit.{inputs, settle, tick, ticks};
-ghost use Rattle.circuit.specs.Sheet.{levels, pairs};
+ghost use Rattle.circuit.specs.Circuit.{tick, ticks};
 ghost use Rattle.board.specs.Board.{laid};
-ghost use Rattle.board.specs.Slices.{bytes, Clean, Shown, parts, Sound-parts, standing, Placed, Went, Emitted};
+ghost use Rattle.board.specs.Slices.{bytes, Clean, cycle-levels, Shown, parts, Sound-parts, standing, Went, Emitted};
 use crate::pins::Pins;
 use crate::pins::read_pins;
 use crate::sheet::INPUT_SIGNALS;
@@ -89,8 +88,8 @@ fn evaluate(
 ) -> Pins
     requires sound { ⌜ Sound-parts (now wires) (now next) (now pins) (length (now state)) (length (now work)) ⌝ }
     requires clean { ⌜ Clean (now state) ⌝ }
-    ensures shown { λ r. ⌜ Shown (map (bit-at (settle (pairs (now (wires .entry))) (inputs read ahead (levels (now (state .entry)))))) (now (pins .entry))) r ⌝ }
-    ensures next { λ _. ⌜ now (state .exit) ≡ bytes (map (bit-at (settle (pairs (now (wires .entry))) (inputs read ahead (levels (now (state .entry)))))) (now (next .entry))) ⌝ }
+    ensures shown { λ r. ⌜ Shown (map (bit-at (cycle-levels (now (wires .entry)) read ahead (now (state .entry)))) (now (pins .entry))) r ⌝ }
+    ensures next { λ _. ⌜ now (state .exit) ≡ bytes (map (bit-at (cycle-levels (now (wires .entry)) read ahead (now (state .entry)))) (now (next .entry))) ⌝ }
 {
     let base = INPUT_SIGNALS + state.len();
     lay_inputs(work, read, ahead, state);

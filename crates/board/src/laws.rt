@@ -1,5 +1,5 @@
 // Laws of runs: the contract of each function is the law. They compute nothing.
-ghost use Rattle.board.specs.Laws.{Pieces-join, Halted-stays, Spins-join, One-word-a-cycle, Room-suffices};
+ghost use Rattle.board.specs.Laws.{Pieces-join, Halted-stays, Spins-join, Halted-spin-stays, One-word-a-cycle, Room-suffices};
 
 // A piece of a run and then another, handed on as they stand, are one run.
 pub fn pieces_join() -> u8
@@ -18,6 +18,13 @@ pub fn halted_stays() -> u8
 // Two calls of `spin`, the second on what the first has left, are one.
 pub fn spins_join() -> u8
     ensures { λ _. ⌜ Spins-join ⌝ }
+{
+    0
+}
+
+// What a call of `spin` that halted has left is what any more cycles leave.
+pub fn halted_spin_stays() -> u8
+    ensures { λ _. ⌜ Halted-spin-stays ⌝ }
 {
     0
 }

@@ -9,6 +9,7 @@ mod signals;
 mod start;
 
 use cycle::run;
+pub use laws::halted_spin_stays;
 pub use laws::halted_stays;
 pub use laws::one_word_a_cycle;
 pub use laws::pieces_join;

@@ -5,6 +5,18 @@ ghost use lib.ListN.{length};
 ghost use Rattle.words.specs.Words.{value, bit-at};
 ghost use Rattle.circuit.specs.Circuit.{All-below, pin-count};
 ghost use Rattle.board.specs.Slices.{Clean, Shown, on-signals};
+use crate::sheet::PIN_COUNT;
+
+// Where the pins stand: those of the address first, then these.
+const DATUM_PINS: usize = 16;
+
+const STORE_PIN: usize = 32;
+
+const EMIT_PIN: usize = 33;
+
+const TAKE_PIN: usize = 34;
+
+const HALT_PINS: usize = 35;
 
 // What the pins show.
 #[derive(Clone, Copy)]
@@ -47,12 +59,12 @@ pub fn read_pins(work: &[u8], pins: &[u32]) -> Pins
     requires clean { ⌜ Clean (now work) ⌝ }
     ensures { λ r. ⌜ Shown (on-signals (now (work .entry)) (now (pins .entry))) r ⌝ }
 {
-    let address = word_on(work, &pins[0..16]);
-    let datum = word_on(work, &pins[16..32]);
-    let store = level_on(work, pins, 32);
-    let emit = level_on(work, pins, 33);
-    let take = level_on(work, pins, 34);
-    let halted = word_on(work, &pins[35..37]);
+    let address = word_on(work, &pins[0..DATUM_PINS]);
+    let datum = word_on(work, &pins[DATUM_PINS..STORE_PIN]);
+    let store = level_on(work, pins, STORE_PIN);
+    let emit = level_on(work, pins, EMIT_PIN);
+    let take = level_on(work, pins, TAKE_PIN);
+    let halted = word_on(work, &pins[HALT_PINS..PIN_COUNT]);
     Pins {
         address,
         datum,

@@ -9,6 +9,11 @@ ghost use Rattle.circuit.specs.Sheet.{levels, pairs};
 ghost use Rattle.board.specs.Slices.{bytes, Clean, gate-byte, on-signals};
 use crate::sheet::INPUT_SIGNALS;
 
+// Where the bits of the word handed over and of the tape's next word stand.
+const READ_SIGNALS: usize = 2;
+
+const TAPE_SIGNALS: usize = 18;
+
 // Makes each byte 0 or 1.
 pub fn make_levels(state: &mut [u8])
     ensures { λ _. ⌜ now (state .exit) ≡ bytes (levels (now (state .entry))) ⌝ }
@@ -49,8 +54,8 @@ pub fn lay_inputs(work: &mut [u8], read: u16, front: u16, state: &[u8])
 {
     work[0] = 0;
     work[1] = 1;
-    lay_word(work, 2, read);
-    lay_word(work, 18, front);
+    lay_word(work, READ_SIGNALS, read);
+    lay_word(work, TAPE_SIGNALS, front);
     lay_state(work, INPUT_SIGNALS, state);
 }
 

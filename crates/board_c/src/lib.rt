@@ -1,5 +1,4 @@
 // `spin` for callers in C.
-ghost use mathlib.Core.Path.{_≡_};
 ghost use Rattle.board.specs.Board.{asked, lent, SpunPost};
 ghost use Rattle.board.specs.declared.Spun.{Spun as Answer};
 ghost use Rattle.board_c.specs.Coded.{Coded};

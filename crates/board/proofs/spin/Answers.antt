@@ -1,13 +1,11 @@
-use mathlib.Core.Path.{_≡_, _∙_}
-use Prim.Native.Nat.{ℕ, _+_, _-_, _≤_}
+use mathlib.Core.Path.{_≡_}
+use Prim.Native.Nat.{_+_, _-_, _≤_}
 use native.Mathlib.Omega.{arith}
-use lib.ListN.{length, take}
+use lib.ListN.{length}
 use Rattle.std.proofs.shelf.Lists.{length-take-le}
 use Rattle.words.specs.Words.{memory-size}
 use Rattle.circuit.specs.Circuit.{input-signals}
 use Rattle.circuit.specs.Sheet.{levels}
-use Rattle.board.specs.Board.{Asked, Lent, asked, lent}
-use Rattle.board.specs.Slices.{Sound-parts}
 use Rattle.board.proofs.Bytes.{clean-of}
 use Rattle.board.proofs.Cuts.{wires-part, next-part, pins-part, parts-from}
 use Rattle.board.proofs.Spinning.{not-sound, ran, no-out}

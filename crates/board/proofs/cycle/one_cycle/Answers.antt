@@ -6,7 +6,6 @@ use lib.ListN.{length, take}
 use Rattle.std.proofs.shelf.Lists.{length-take-le}
 use Rattle.words.specs.Words.{bit-at}
 use Rattle.circuit.specs.Circuit.{settle, inputs, pin-levels, signals}
-use Rattle.circuit.specs.Sheet.{levels}
 use Rattle.board.specs.Slices.{bytes, parts, Shown, standing}
 use Rattle.board.specs.declared.cycle.Port.{Port}
 use Rattle.board.proofs.Bytes.{levels-of, clean-of}

@@ -1,7 +1,7 @@
-use mathlib.Core.Path.{_≡_, sym, subst}
-use Prim.Native.Nat.{ℕ, _+_, _<_, _≤_}
+use mathlib.Core.Path.{sym, subst}
+use Prim.Native.Nat.{_<_, _≤_}
 use native.Mathlib.Omega.{arith}
-use lib.ListN.{length, drop, getD}
+use lib.ListN.{length, getD}
 use Rattle.std.proofs.shelf.Lists.{drop-more, drop-all}
 use Rattle.circuit.specs.Circuit.{All-below}
 use Rattle.board.proofs.Wiring.{below-at}

@@ -1,7 +1,7 @@
-use mathlib.Core.Path.{_≡_, sym, subst}
-use Prim.Native.Nat.{ℕ, _+_, _-_, _*_, _<_, _≤_}
+use mathlib.Core.Path.{sym, subst}
+use Prim.Native.Nat.{_+_, _-_, _*_}
 use native.Mathlib.Omega.{arith}
-use lib.ListN.{length, take, drop}
+use lib.ListN.{take, drop}
 use Rattle.circuit.specs.Circuit.{Sound-gates, All-below, input-signals, pin-count}
 use Rattle.circuit.specs.Sheet.{pairs}
 use Rattle.board.specs.Slices.{Sound-sheet}
