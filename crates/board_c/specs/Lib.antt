@@ -1,0 +1,2 @@
+-- The answers of `spin` for C.
+pub mod Coded
