@@ -10,7 +10,8 @@ use Rattle.std.proofs.shelf.Lists.{length-take-le, drop-drop}
 use Rattle.circuit.specs.Circuit.{Circuit, Board, tick, ticks}
 use Rattle.board.specs.Slices.{Clean, standing, Placed}
 use Rattle.board.specs.declared.cycle.Port.{Port}
-use Rattle.board.proofs.Ticking.{ticks-first, ticks-halted, tick-grows, ticks-grow}
+use Rattle.circuit.proofs.Ticking.{halted-stays}
+use Rattle.board.proofs.Ticking.{ticks-first, tick-grows, ticks-grow}
 
 pub record Along (c : Circuit) (b : Board) (left : ℕ) (state mem tape out out′ : List ℕ) (p : Port) : Type 0 where
   pub same : ticks left c (standing state mem tape out′ p) ≡ b
@@ -58,5 +59,5 @@ pub along-all : (c : Circuit) (b : Board) (left : ℕ) (state mem tape out out�
     → (standing state mem tape out′ p ≡ b) × Clean state × Placed tape out out′ p
 along-all c b left state mem tape out out′ p a w =
     let s = standing state mem tape out′ p in
-    let e : s ≡ b = elim w [ inl z ↦ ap (λ (n : ℕ). ticks n c s) (sym z) ∙ a .same | inr h ↦ sym (ticks-halted left c s h) ∙ a .same ] in
+    let e : s ≡ b = elim w [ inl z ↦ ap (λ (n : ℕ). ticks n c s) (sym z) ∙ a .same | inr h ↦ sym (halted-stays c left s h) ∙ a .same ] in
     (e, a .clean, a .placed)

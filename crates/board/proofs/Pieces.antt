@@ -13,12 +13,8 @@ use Rattle.circuit.specs.Circuit.{Circuit, Board, cycle, tick, ticks, unless-ha
 use Rattle.circuit.specs.Sheet.{drawn}
 use Rattle.board.specs.Board.{laid, Stands}
 use Rattle.board.specs.Laws.{handed-on, shown-after, Pieces-join, Halted-stays, Spins-join, Halted-spin-stays, One-word-a-cycle, Room-suffices}
-use Rattle.board.proofs.Ticking.{same-board, ticks-halted}
-
--- m + n cycles are m cycles and then n
-ticks-add : (m n : ℕ) (c : Circuit) (b : Board) → ticks (m + n) c b ≡ ticks n c (ticks m c b)
-ticks-add zero n c b = let e : 0 + n ≡ n = omega arith in ap (λ (k : ℕ). ticks k c b) e
-ticks-add (suc m) n c b = let e : suc m + n ≡ suc (m + n) = omega arith in ap (λ (k : ℕ). ticks k c b) e ∙ ticks-add m n c (tick c b)
+use Rattle.circuit.proofs.Ticking.{ticks-add, halted-stays as stays-halted}
+use Rattle.board.proofs.Ticking.{same-board}
 
 -- words that were shown before do not matter to a run
 cond-after : (e : Bool) (ws out : List ℕ) (x : ℕ) → cond e ((ws ++ out) ++ (x ∷ [])) (ws ++ out) ≡ ws ++ cond e (out ++ (x ∷ [])) out
@@ -44,10 +40,10 @@ handed b z = same-board refl refl refl refl (sym (append-nil (b .out))) z
 pub pieces-join : Pieces-join
 pieces-join c b m n z =
     let at = ticks m c b in
-    ticks-add m n c b ∙ (ap (ticks n c) (handed at z) ∙ ticks-after n c (at .out) (handed-on at))
+    ticks-add c m n b ∙ (ap (ticks n c) (handed at z) ∙ ticks-after n c (at .out) (handed-on at))
 
 pub halted-stays : Halted-stays
-halted-stays c b m n h = ticks-add m n c b ∙ ticks-halted n c (ticks m c b) h
+halted-stays c b m n h = ticks-add c m n b ∙ stays-halted c n (ticks m c b) h
 
 -- the same in lent slices
 take-both : (m n : ℕ) (xs ys : List ℕ) → take (m + n) (take m xs ++ take n ys) ≡ take m xs ++ take n ys

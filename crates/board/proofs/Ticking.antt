@@ -1,4 +1,4 @@
--- A cycle of the board from its parts, the words that cycles put out, and boards that have halted.
+-- A cycle of the board from its parts, and the words that cycles put out.
 use mathlib.Core.Path.{_≡_, refl, sym, _∙_, ap}
 use mathlib.Core.Bool.{Bool, true, false, cond}
 use mathlib.Core.List.{List, [], _∷_, _++_, map}
@@ -25,17 +25,9 @@ cond-false b x y e = ap (λ (t : Bool). cond t x y) (sym e)
 pub rest-none : (xs : List ℕ) (n : ℕ) → length xs ≤ n → drop n xs ≡ rest (drop n xs)
 rest-none xs n l = drop-all n xs l ∙ ap rest (sym (drop-all n xs l))
 
--- a board that has not halted goes on, one that has stays
+-- a board that has not halted goes on
 pub goes-on : (c : Circuit) (b : Board) → b .halted ≡ running → tick c b ≡ cycle c b (pin-levels c b)
 goes-on c b z = ap (λ (h : ℕ). unless-halted h b (cycle c b (pin-levels c b))) z
-
-stays : (h : ℕ) (b after : Board) → 0 < h → unless-halted h b after ≡ b
-stays zero b after l = absurd (omega arith)
-stays (suc h) b after l = refl
-
-pub ticks-halted : (n : ℕ) (c : Circuit) (b : Board) → 0 < b .halted → ticks n c b ≡ b
-ticks-halted zero c b h = refl
-ticks-halted (suc n) c b h = ap (ticks n c) (stays (b .halted) b (cycle c b (pin-levels c b)) h) ∙ ticks-halted n c b h
 
 pub ticks-first : (n : ℕ) (c : Circuit) (b : Board) → 0 < n → ticks n c b ≡ ticks (n - 1) c (tick c b)
 ticks-first zero c b h = absurd (omega arith)
