@@ -8,7 +8,6 @@ use Prim.Native.Nat.{ℕ, zero, suc, _+_, _-_, _*_, _/_, _%_, _<_}
 use native.Mathlib.Omega.{arith}
 use lib.ListN.{length, take, drop, replicate}
 use lib.Dec.{ltb, eqb}
-use Rattle.std.proofs.shelf.Tests.{lt-ltb, le-ltb, ltb-true, ltb-false}
 use Rattle.words.specs.Words.{add16, sub16, less16, nand16, half16, bit, bits, value, shifted, nand, nands, word, front}
 use Rattle.words.proofs.Bits.{value-bits, value-bits-16, value-++, all-low-is}
 use Rattle.words.proofs.Lists.{word-below, front-below}
@@ -23,46 +22,8 @@ use Rattle.cpu.proofs.ControlLines.{Control, control}
 use Rattle.cpu.proofs.DataPath.{index-is, first-is, number-is, second-is, addend-is, sum-is, nanded-is, less-is, zero-is, result-is, counter-is, address-is}
 use Rattle.cpu.proofs.Board.{held, Settled, settled, all-levels, map-++}
 use Rattle.cpu.proofs.States.{Words-in}
+use Rattle.cpu.proofs.Operands.{and-false, and-true, add-none, map-take, signed-number, sign-carried, compare-shifted, target-is}
 use Rattle.cpu.proofs.Phases.{field-b, field-d, field-m, field-n, read-is, sum-of}
-
-and-false : (x : Bool) → x && false ≡ false
-and-false true = refl
-and-false false = refl
-
-and-true : (x : Bool) → x && true ≡ x
-and-true true = refl
-and-true false = refl
-
-add-none : (x : ℕ) → x + 0 ≡ x
-add-none x = omega arith
-
-map-take : (f : ℕ → Bool) (k : ℕ) (xs : List ℕ) → map f (take k xs) ≡ take k (map f xs)
-map-take f zero xs = refl
-map-take f (suc k) [] = refl
-map-take f (suc k) (x ∷ xs) = ap {B = List Bool} (λ r. f x ∷ r) (map-take f k xs)
-
--- a 9-bit number with its sign carried on: itself, or itself less 512 in 16 bits
-abbrev signed-number : ℕ → ℕ
-signed-number n = cond (ltb n 256) n (n + 65024)
-
-sign-carried : (w : ℕ) (c : Bool) (x : ℕ) → x < 256 → w % 512 ≡ x + 256 * bit c → x + 256 * value (replicate 8 c) ≡ signed-number (w % 512)
-sign-carried w true x h e = let k = le-ltb (w % 512) 256 (omega arith) in rw k (omega arith)
-sign-carried w false x h e = let k = lt-ltb (w % 512) 256 (omega arith) in rw k (omega arith)
-
--- the carry of a difference
-compare-shifted : (t x : ℕ) → t < 65536 → x < 65536 → ltb (t + 65536 - x) 65536 ≡ ltb t x
-compare-shifted t x ht hx = go (ltb t x) refl
-  where
-    go : (b : Bool) → ltb t x ≡ b → ltb (t + 65536 - x) 65536 ≡ ltb t x
-    go true e = let k = ltb-true t x e in lt-ltb (t + 65536 - x) 65536 (omega arith) ∙ sym e
-    go false e = let k = ltb-false t x e in le-ltb (t + 65536 - x) 65536 (omega arith) ∙ sym e
-
-target-is : (pc x : ℕ) → pc < 65536 → x < 512 → (add16 pc 1 + signed-number x) % 65536 ≡ target pc x
-target-is pc x hp hx = go (ltb x 256)
-  where
-    go : (b : Bool) → (add16 pc 1 + cond b x (x + 65024)) % 65536 ≡ (pc + 1 + x + 65536 - cond b 0 512) % 65536
-    go true = omega arith
-    go false = omega arith
 
 module _ (s : Machine) (g : Words-in s) (r d : ℕ) (ld : Bool) where
   -- the instruction, and the registers that its fields name

@@ -18,7 +18,8 @@ use Rattle.cpu.specs.Cpu.{cpu-flops, cpu}
 use Rattle.cpu.proofs.Drawing.{whole}
 use Rattle.cpu.proofs.Board.{held}
 use Rattle.cpu.proofs.States.{Words-in, Stands}
-use Rattle.cpu.proofs.Simulation.{ends-at, instruction}
+use Rattle.cpu.proofs.Phases.{ends-at}
+use Rattle.cpu.proofs.Simulation.{instruction}
 
 -- at power on the board is in the third cycle of an instruction that wrote nothing
 stands-first : (mem tape : List ℕ) → Is-memory mem → Is-tape tape → Stands (begin mem tape) (tick cpu (power-on cpu mem tape))

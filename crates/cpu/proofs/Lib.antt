@@ -5,6 +5,7 @@ pub mod DataPath
 pub mod Board
 pub mod States
 pub mod Phases
+pub mod Operands
 pub mod Execute
 pub mod Simulation
 pub mod IsMachine

@@ -1,12 +1,14 @@
 -- The first and the third cycle of an instruction. In order: a cycle's end by its words, the fields of the instruction in
--- hand, the register that is read, the first cycle, the third cycle.
+-- hand, the register that is read, the first cycle, the third cycle, and that it ends at the machine's next state.
 use mathlib.Core.Path.{_≡_, refl, sym, ap, ap₂, _∙_}
 use mathlib.Core.Bool.{Bool, true, false, not, _&&_, cond}
 use mathlib.Core.List.{List, [], _∷_, _++_, map}
+use mathlib.Core.Logic.{inl}
 use Prim.Native.Nat.{ℕ, zero, suc, _+_, _-_, _*_, _/_, _%_, _<_}
 use native.Mathlib.Omega.{arith}
 use lib.ListN.{length, take, drop, getD}
 use Rattle.words.specs.Words.{add16, bit, bits, value, word, put, front, Is-tape}
+use Rattle.words.specs.Runs.{running}
 use Rattle.words.proofs.Bits.{value-bits-16}
 use Rattle.words.proofs.Lists.{word-below}
 use Rattle.words.proofs.Low.{low-3, low-16, halved-3, halved-6, halved-9, halved-12}
@@ -20,7 +22,8 @@ use Rattle.cpu.specs.Cpu.{cpu}
 use Rattle.cpu.proofs.ControlLines.{Control, control}
 use Rattle.cpu.proofs.DataPath.{index-is, port-is, first-is, second-is, addend-is, sum-is, counter-is, address-is}
 use Rattle.cpu.proofs.Board.{held, Settled, settled, each-bits, all-levels, after-cycle, moved, ticked}
-use Rattle.cpu.proofs.States.{ready, second, third}
+use Rattle.machine.specs.Machine.{Machine}
+use Rattle.cpu.proofs.States.{Words-in, ready, second, third, Ready, Stands}
 
 -- a cycle's end, by its words
 pub ends-by : (f : ℕ → Bool) (b : Board) (regs : List ℕ) (pc p r d a : ℕ) (p1 p2 p3 wr ld st em tk : Bool) (h : ℕ) → value (map f NEXT-COUNTER) ≡ pc → value (map f PORT) ≡ p → value (map f NEXT-RESULT) ≡ r → value (map f FIELD-D) ≡ d → value (map f ADDRESS) ≡ a →
@@ -143,3 +146,10 @@ third-tick pc regs t r d wr ld mem w tape out hd l hpc =
     let f = all-levels w (front tape) (held pc regs t r d false false true wr ld) in
     let n = settled w (front tape) pc regs t r d false false true wr ld l in
     (value (map f PORT), value (map f NEXT-RESULT), f LOAD, ticked pc regs t r d false false true wr ld b l hd refl refl ∙ third-cycle f w (front tape) pc regs t r d wr ld n hpc b (cond wr (put regs d (cond ld w r)) regs))
+
+-- the third cycle ends at the machine's next state
+pub ends-at : (s : Machine) (regs : List ℕ) (t r d : ℕ) (wr ld : Bool) (w : ℕ) (b : Board) → Words-in s → s .halted ≡ running → d < 8 → length regs ≡ 8 →
+    b ≡ third (s .pc) regs t r d wr ld (s .mem) w (s .tape) (s .out) → s .registers ≡ cond wr (put regs d (cond ld w r)) regs → Stands s (tick cpu b)
+ends-at s regs t r d wr ld w b g z hd l e er =
+    let k = third-tick (s .pc) regs t r d wr ld (s .mem) w (s .tape) (s .out) hd l (g .pc-below) in
+    inl (record { t = k .0; r = k .1; d = w / 512 % 8; ld = k .2; d-below = omega arith; words-in = g; runs = z; is = ap (tick cpu) e ∙ (k .3 ∙ rw er refl) })

@@ -1,6 +1,5 @@
--- The board with the drawing goes along with the instruction machine: three cycles an instruction. In order: the third
--- cycle ends at the machine's next state; the second cycle by its words; a register that takes a word; each operation;
--- the instruction whole.
+-- The board with the drawing goes along with the instruction machine: three cycles an instruction. In order: the second
+-- cycle by its words; a register that takes a word; each operation; the instruction whole.
 use mathlib.Core.Path.{_≡_, refl, sym, ap, ap₂, subst, _∙_}
 use mathlib.Core.Bool.{Bool, true, false, not, _&&_, cond}
 use mathlib.Core.List.{List, [], _∷_, _++_, map}
@@ -25,15 +24,8 @@ use Rattle.cpu.specs.Cpu.{cpu}
 use Rattle.cpu.proofs.ControlLines.{Control}
 use Rattle.cpu.proofs.Board.{held, after-cycle, moved, ticked}
 use Rattle.cpu.proofs.States.{Words-in, ready, second, third, Ready, Stopped, Stands}
-use Rattle.cpu.proofs.Phases.{ends-by, d-is, field-op, first-tick, third-tick}
+use Rattle.cpu.proofs.Phases.{ends-by, d-is, field-op, first-tick, ends-at}
 use Rattle.cpu.proofs.Execute
-
--- the third cycle ends at the machine's next state
-pub ends-at : (s : Machine) (regs : List ℕ) (t r d : ℕ) (wr ld : Bool) (w : ℕ) (b : Board) → Words-in s → s .halted ≡ running → d < 8 → length regs ≡ 8 →
-    b ≡ third (s .pc) regs t r d wr ld (s .mem) w (s .tape) (s .out) → s .registers ≡ cond wr (put regs d (cond ld w r)) regs → Stands s (tick cpu b)
-ends-at s regs t r d wr ld w b g z hd l e er =
-    let k = third-tick (s .pc) regs t r d wr ld (s .mem) w (s .tape) (s .out) hd l (g .pc-below) in
-    inl (record { t = k .0; r = k .1; d = w / 512 % 8; ld = k .2; d-below = omega arith; words-in = g; runs = z; is = ap (tick cpu) e ∙ (k .3 ∙ rw er refl) })
 
 bit-below : (c : Bool) → cond c 1 0 < 65536
 bit-below true = omega arith

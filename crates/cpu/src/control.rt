@@ -82,7 +82,7 @@ const CONTROL_GATES: [(u32, u32); 72] = [
 ];
 
 // The control lines, from the operation's bits and the phases.
-pub fn draw_control(sheet: &mut [u32])
+pub(crate) fn draw_control(sheet: &mut [u32])
     requires room { ⌜ 144 ≤ length (now sheet) ⌝ }
     ensures { λ _. ⌜ Drew (now (sheet .entry)) 0 (ink control-stage) (now (sheet .exit)) ⌝ }
 {

@@ -11,7 +11,7 @@ use crate::signals::*;
 use crate::words::port;
 
 // At power on only phase 3 is high.
-pub fn put_power_on(sheet: &mut [u32])
+pub(crate) fn put_power_on(sheet: &mut [u32])
     requires room { ⌜ 184 ≤ length (now sheet) ⌝ }
     ensures { λ _. ⌜ Drew (now (sheet .entry)) 0 cpu-flops (now (sheet .exit)) ⌝ }
 {
@@ -25,7 +25,7 @@ pub fn put_power_on(sheet: &mut [u32])
 const NEXT_LINES: [u32; 8] = [11, 12, 13, PHASE_3, PHASE_1, PHASE_2, WRITE, LOAD];
 
 // What each flip-flop holds in the next cycle.
-pub fn put_next(sheet: &mut [u32])
+pub(crate) fn put_next(sheet: &mut [u32])
     requires room { ⌜ 184 ≤ length (now sheet) ⌝ }
     ensures { λ _. ⌜ Drew (now (sheet .entry)) 0 cpu-next (now (sheet .exit)) ⌝ }
 {
@@ -50,7 +50,7 @@ pub fn put_next(sheet: &mut [u32])
 }
 
 // The pins: address, datum, store, emit, take, and how it halts.
-pub fn put_pins(sheet: &mut [u32])
+pub(crate) fn put_pins(sheet: &mut [u32])
     requires room { ⌜ 37 ≤ length (now sheet) ⌝ }
     ensures { λ _. ⌜ Drew (now (sheet .entry)) 0 cpu-pins (now (sheet .exit)) ⌝ }
 {

@@ -5,7 +5,7 @@ ghost use Rattle.cpu.specs.Cpu.{flat};
 ghost use Rattle.cpu.specs.Ink.{Drew};
 
 // Numbers one after the other, from a place of the sheet on.
-pub fn put_numbers(sheet: &mut [u32], at: usize, xs: &[u32])
+pub(crate) fn put_numbers(sheet: &mut [u32], at: usize, xs: &[u32])
     requires { ⌜ at + length (now xs) ≤ length (now sheet) ⌝ }
     ensures { λ _. ⌜ Drew (now (sheet .entry)) at (now (xs .entry)) (now (sheet .exit)) ⌝ }
 {
@@ -15,7 +15,7 @@ pub fn put_numbers(sheet: &mut [u32], at: usize, xs: &[u32])
 }
 
 // Words of sixteen signals one after the other, from the front of the sheet on.
-pub fn put_words(sheet: &mut [u32], words: &[[u32; 16]])
+pub(crate) fn put_words(sheet: &mut [u32], words: &[[u32; 16]])
     requires { ⌜ 16 * length (now words) ≤ length (now sheet) ⌝ }
     ensures { λ _. ⌜ Drew (now (sheet .entry)) 0 (flat (now (words .entry))) (now (sheet .exit)) ⌝ }
 {

@@ -18,7 +18,7 @@ fn put_gate(sheet: &mut [u32], at: usize, a: u32, b: u32)
 }
 
 // Gates one after the other, from a place of the sheet on.
-pub fn put_gates(sheet: &mut [u32], at: usize, gates: &[(u32, u32)])
+pub(crate) fn put_gates(sheet: &mut [u32], at: usize, gates: &[(u32, u32)])
     requires { ⌜ at + 2 * length (now gates) ≤ length (now sheet) ⌝ }
     ensures { λ _. ⌜ Drew (now (sheet .entry)) at (ink (now (gates .entry))) (now (sheet .exit)) ⌝ }
 {
@@ -29,7 +29,7 @@ pub fn put_gates(sheet: &mut [u32], at: usize, gates: &[(u32, u32)])
 }
 
 // A word of sixteen signals, each `step` after the one before.
-pub fn every(first: u32, step: u32) -> [u32; 16]
+pub(crate) fn every(first: u32, step: u32) -> [u32; 16]
     requires { ⌜ first + 16 * step < 2 ^ 32 ⌝ }
     ensures { λ r. ⌜ r ≡ spaced first step ⌝ }
 {
@@ -54,7 +54,7 @@ pub fn every(first: u32, step: u32) -> [u32; 16]
 }
 
 // Inverters.
-pub fn draw_inverters(sheet: &mut [u32], first: u32, xs: &[u32])
+pub(crate) fn draw_inverters(sheet: &mut [u32], first: u32, xs: &[u32])
     requires room { ⌜ 2 * length (now xs) ≤ length (now sheet) ⌝ }
     ensures { λ _. ⌜ Drew (now (sheet .entry)) 0 (ink (inverter-gates first (now (xs .entry)))) (now (sheet .exit)) ⌝ }
 {
@@ -64,7 +64,7 @@ pub fn draw_inverters(sheet: &mut [u32], first: u32, xs: &[u32])
 }
 
 // NAND of two words.
-pub fn draw_nands(sheet: &mut [u32], first: u32, xs: &[u32], ys: &[u32])
+pub(crate) fn draw_nands(sheet: &mut [u32], first: u32, xs: &[u32], ys: &[u32])
     requires same { ⌜ length (now xs) ≡ length (now ys) ⌝ }
     requires room { ⌜ 2 * length (now xs) ≤ length (now sheet) ⌝ }
     ensures { λ _. ⌜ Drew (now (sheet .entry)) 0 (ink (nand-gates first (now (xs .entry)) (now (ys .entry)))) (now (sheet .exit)) ⌝ }
@@ -75,7 +75,14 @@ pub fn draw_nands(sheet: &mut [u32], first: u32, xs: &[u32], ys: &[u32])
 }
 
 // The choice of two words.
-pub fn draw_mux(sheet: &mut [u32], first: u32, select: u32, unselect: u32, xs: &[u32], ys: &[u32])
+pub(crate) fn draw_mux(
+    sheet: &mut [u32],
+    first: u32,
+    select: u32,
+    unselect: u32,
+    xs: &[u32],
+    ys: &[u32],
+)
     requires same { ⌜ length (now xs) ≡ length (now ys) ⌝ }
     requires room { ⌜ 6 * length (now xs) ≤ length (now sheet) ⌝ }
     requires small { ⌜ first + 3 * length (now xs) < 2 ^ 32 ⌝ }
@@ -93,7 +100,7 @@ pub fn draw_mux(sheet: &mut [u32], first: u32, select: u32, unselect: u32, xs: &
 }
 
 // A word, or its inverse where a line is high.
-pub fn draw_invert_if(sheet: &mut [u32], first: u32, line: u32, xs: &[u32])
+pub(crate) fn draw_invert_if(sheet: &mut [u32], first: u32, line: u32, xs: &[u32])
     requires room { ⌜ 8 * length (now xs) ≤ length (now sheet) ⌝ }
     requires small { ⌜ first + 4 * length (now xs) < 2 ^ 32 ⌝ }
     ensures { λ _. ⌜ Drew (now (sheet .entry)) 0 (ink (invert-if-gates first line (now (xs .entry)))) (now (sheet .exit)) ⌝ }
@@ -110,7 +117,7 @@ pub fn draw_invert_if(sheet: &mut [u32], first: u32, line: u32, xs: &[u32])
 }
 
 // The ripple-carry adder: the carry of each bit is led to the next.
-pub fn draw_adder(sheet: &mut [u32], first: u32, xs: &[u32], ys: &[u32], carry_in: u32)
+pub(crate) fn draw_adder(sheet: &mut [u32], first: u32, xs: &[u32], ys: &[u32], carry_in: u32)
     requires same { ⌜ length (now xs) ≡ length (now ys) ⌝ }
     requires room { ⌜ 18 * length (now xs) ≤ length (now sheet) ⌝ }
     requires small { ⌜ first + 9 * length (now xs) < 2 ^ 32 ⌝ }
@@ -142,7 +149,7 @@ pub fn draw_adder(sheet: &mut [u32], first: u32, xs: &[u32], ys: &[u32], carry_i
 }
 
 // The zero test: each bit inverted, then AND with what the bits below gave.
-pub fn draw_zero_test(sheet: &mut [u32], first: u32, high: u32, xs: &[u32])
+pub(crate) fn draw_zero_test(sheet: &mut [u32], first: u32, high: u32, xs: &[u32])
     requires room { ⌜ 6 * length (now xs) ≤ length (now sheet) ⌝ }
     requires small { ⌜ first + 3 * length (now xs) < 2 ^ 32 ⌝ }
     ensures { λ _. ⌜ Drew (now (sheet .entry)) 0 (ink (zero-gates first high (now (xs .entry)))) (now (sheet .exit)) ⌝ }

@@ -8,7 +8,13 @@ use crate::parts::draw_mux;
 use crate::parts::put_gates;
 
 // One level of the read port: of each two words, the second where the line is high, else the first.
-pub fn draw_level(sheet: &mut [u32], first: u32, select: u32, unselect: u32, words: &[[u32; 16]])
+pub(crate) fn draw_level(
+    sheet: &mut [u32],
+    first: u32,
+    select: u32,
+    unselect: u32,
+    words: &[[u32; 16]],
+)
     requires room { ⌜ 48 * length (now words) ≤ length (now sheet) ⌝ }
     requires small { ⌜ first + 24 * length (now words) < 2 ^ 32 ⌝ }
     ensures { λ _. ⌜ Drew (now (sheet .entry)) 0 (ink (level-gates first select unselect (now (words .entry)))) (now (sheet .exit)) ⌝ }
@@ -28,7 +34,13 @@ pub fn draw_level(sheet: &mut [u32], first: u32, select: u32, unselect: u32, wor
 }
 
 // Each line led on to two: the line and not the select line, the line and the select line.
-pub fn draw_split(sheet: &mut [u32], first: u32, select: u32, unselect: u32, lines: &[(u32, u32)])
+pub(crate) fn draw_split(
+    sheet: &mut [u32],
+    first: u32,
+    select: u32,
+    unselect: u32,
+    lines: &[(u32, u32)],
+)
     requires room { ⌜ 8 * length (now lines) ≤ length (now sheet) ⌝ }
     requires small { ⌜ first + 4 * length (now lines) < 2 ^ 32 ⌝ }
     ensures { λ _. ⌜ Drew (now (sheet .entry)) 0 (ink (split-gates first select unselect (now (lines .entry)))) (now (sheet .exit)) ⌝ }
@@ -46,7 +58,7 @@ pub fn draw_split(sheet: &mut [u32], first: u32, select: u32, unselect: u32, lin
 }
 
 // Each register takes the word where its line is high, else it keeps its own.
-pub fn draw_keep(
+pub(crate) fn draw_keep(
     sheet: &mut [u32],
     first: u32,
     lines: &[(u32, u32)],

@@ -35,7 +35,7 @@ const BRANCH_GATES: [(u32, u32); 5] = [
 ];
 
 // The register that is read: a in phase 1, then b, or d for operations from 4 on. The port is a tree of seven choices.
-pub fn draw_read(sheet: &mut [u32])
+pub(crate) fn draw_read(sheet: &mut [u32])
     requires room { ⌜ 714 ≤ length (now sheet) ⌝ }
     ensures { λ _. ⌜ Drew (now (sheet .entry)) 0 (ink (join (late-index-stage ∷ index-stage ∷ select-stage ∷ read-stage ∷ []))) (now (sheet .exit)) ⌝ }
 {
@@ -58,7 +58,7 @@ pub fn draw_read(sheet: &mut [u32])
 }
 
 // The adder with its two words, NAND, less, and the zero test.
-pub fn draw_arithmetic(sheet: &mut [u32])
+pub(crate) fn draw_arithmetic(sheet: &mut [u32])
     requires room { ⌜ 738 ≤ length (now sheet) ⌝ }
     ensures { λ _. ⌜ Drew (now (sheet .entry)) 0 (ink (join (first-stage ∷ second-stage ∷ addend-stage ∷ adder-stage ∷ nand-stage ∷ less-stage ∷ zero-stage ∷ []))) (now (sheet .exit)) ⌝ }
 {
@@ -93,7 +93,7 @@ pub fn draw_arithmetic(sheet: &mut [u32])
 }
 
 // The result, chosen by the operation's bits: a tree of seven choices.
-pub fn draw_result(sheet: &mut [u32])
+pub(crate) fn draw_result(sheet: &mut [u32])
     requires room { ⌜ 672 ≤ length (now sheet) ⌝ }
     ensures { λ _. ⌜ Drew (now (sheet .entry)) 0 (ink (join (nand-or-less-stage ∷ half-or-low-stage ∷ below-4-stage ∷ from-4-stage ∷ below-8-stage ∷ from-8-stage ∷ result-stage ∷ []))) (now (sheet .exit)) ⌝ }
 {
@@ -123,7 +123,7 @@ pub fn draw_result(sheet: &mut [u32])
 }
 
 // The write port: the word from memory or the result, into the register that was kept.
-pub fn draw_write(sheet: &mut [u32])
+pub(crate) fn draw_write(sheet: &mut [u32])
     requires room { ⌜ 928 ≤ length (now sheet) ⌝ }
     ensures { λ _. ⌜ Drew (now (sheet .entry)) 0 (ink (join (written-stage ∷ write-select-stage ∷ write-stage ∷ []))) (now (sheet .exit)) ⌝ }
 {
@@ -154,7 +154,7 @@ pub fn draw_write(sheet: &mut [u32])
 }
 
 // Where to go on, and the address: the sum in phase 1 and where a branch is taken, the operand at a jump, else no change.
-pub fn draw_counter(sheet: &mut [u32])
+pub(crate) fn draw_counter(sheet: &mut [u32])
     requires room { ⌜ 298 ≤ length (now sheet) ⌝ }
     ensures { λ _. ⌜ Drew (now (sheet .entry)) 0 (ink (join (branch-stage ∷ jump-stage ∷ counter-stage ∷ address-stage ∷ []))) (now (sheet .exit)) ⌝ }
 {

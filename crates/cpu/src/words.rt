@@ -5,33 +5,33 @@ ghost use Rattle.cpu.specs.Stages.{PORT, SUM};
 use crate::parts::every;
 use crate::signals::*;
 
-pub fn program_counter() -> [u32; 16]
+pub(crate) fn program_counter() -> [u32; 16]
     ensures { λ r. ⌜ r ≡ PROGRAM-COUNTER ⌝ }
 {
     every(COUNTER_0, 1)
 }
 
-pub fn operand() -> [u32; 16]
+pub(crate) fn operand() -> [u32; 16]
     ensures { λ r. ⌜ r ≡ OPERAND ⌝ }
 {
     every(OPERAND_0, 1)
 }
 
 // What the read port shows.
-pub fn port() -> [u32; 16]
+pub(crate) fn port() -> [u32; 16]
     ensures { λ r. ⌜ r ≡ PORT ⌝ }
 {
     every(PORT_0, PORT_STEP)
 }
 
-pub fn sum() -> [u32; 16]
+pub(crate) fn sum() -> [u32; 16]
     ensures { λ r. ⌜ r ≡ SUM ⌝ }
 {
     every(SUM_0, SUM_STEP)
 }
 
 // The eight registers.
-pub fn registers() -> [[u32; 16]; 8]
+pub(crate) fn registers() -> [[u32; 16]; 8]
     ensures { λ r. ⌜ r ≡ REGISTERS ⌝ }
 {
     [
