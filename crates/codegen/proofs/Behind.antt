@@ -1,11 +1,10 @@
 -- What stands behind the code of an expression, a statement and a procedure: the rest that it was written with, at its end.
-use mathlib.Core.Path.{_≡_, refl}
-use mathlib.Core.List.{List, [], _∷_, _++_}
+use mathlib.Core.List.{List, _++_}
 use Prim.Native.Nat.{ℕ}
-use Rattle.language.specs.Language.{Expr, num, loc, glob, cell, add, sub, nand, less, half, call, Stmt, skip, then, setloc, setglob, setcell, if, while, out, take, Proc, Program}
+use Rattle.language.specs.Language.{Expr, num, loc, glob, cell, add, sub, nand, less, half, call, Stmt, skip, then, setloc, setglob, setcell, if, while, out, take, Program}
 use Rattle.codegen.specs.Layout.{value}
 use Rattle.codegen.specs.Instructions.{Instruction, past, Stands}
-use Rattle.codegen.specs.Codegen.{constant, push, pop, go-to, go-unless-zero, add-code, sub-code, nand-code, less-code, load-local, load-global, load-cell, halve, store-local, store-global, store-cell, put-out, take-to-local, end-of-two, end-of-expr, end-of-stmt, else-place, then-place, loop-place, check-room, make-frame, clear-words, leave-frame, body-place, end-of-proc, entry, code-expr, code-stmt, code-proc}
+use Rattle.codegen.specs.Codegen.{constant, push, pop, go-to, go-unless-zero, add-code, sub-code, nand-code, less-code, load-local, load-global, load-cell, halve, store-local, store-global, store-cell, put-out, take-to-local, end-of-two, end-of-expr, end-of-stmt, else-place, then-place, loop-place, entry, code-expr, code-stmt}
 use Rattle.codegen.proofs.Rows.{stands-front, stands-past}
 
 module _ (img : List ℕ) (g : Program) where

@@ -1,21 +1,21 @@
 -- What each block of an expression's or statement's code does: numbers; locals and globals; the stack; jumps; cells; words
 -- put out and taken.
 use mathlib.Core.Path.{_≡_, refl}
-use mathlib.Core.Bool.{Bool, true, false}
+use mathlib.Core.Bool.{true, false}
 use mathlib.Core.List.{List, [], _∷_, _++_}
-use Prim.Native.Nat.{ℕ, suc, _+_, _-_, _*_, _/_, _%_, _<_, _≤_}
+use Prim.Native.Nat.{ℕ, _+_, _-_, _*_, _/_, _%_, _<_, _≤_}
 use native.Mathlib.Omega.{arith}
 use lib.Dec.{eqb, ltb}
 use Rattle.std.proofs.shelf.Tests.{ltb-true}
-use Rattle.words.specs.Words.{add16, sub16, word, put, front, rest}
+use Rattle.words.specs.Words.{add16, sub16, word, put, front}
 use Rattle.words.specs.Runs.{ended-index}
 use Rattle.machine.specs.Machine.{Machine, halt}
 use Rattle.language.specs.Language.{State, set-local, set-global, set-cell, take-word}
 use Rattle.language.specs.Limits.{most-globals, most-cells}
 use Rattle.language.specs.Language as language
-use Rattle.codegen.specs.Layout.{stack-top, stack-base, cells-base, globals-base, value, work, back, spare, one}
-use Rattle.codegen.specs.Instructions.{Instruction, LESS, SUB, LOW, HIGH, LOAD, STORE, ADD, ZERO, INDEX, JUMP, past, Stands}
-use Rattle.codegen.specs.Codegen.{constant, push, pop, check-cell, cell-place, go-to, go-unless-zero, load-local, load-global, load-cell, halve, store-local, store-global, store-cell, put-out, take-to-local}
+use Rattle.codegen.specs.Layout.{stack-top, stack-base, cells-base, globals-base, value, work, back, spare}
+use Rattle.codegen.specs.Instructions.{Instruction, INDEX, JUMP, past, Stands}
+use Rattle.codegen.specs.Codegen.{constant, push, pop, cell-test, check-cell, go-to, zero-test, go-unless-zero, load-local, load-global, fetch-cell, load-cell, halve, store-local, store-global, keep-cell, store-cell, put-out, take-to-local}
 use Rattle.codegen.specs.Heart.{Scratch, at-work, Has-code}
 use Rattle.codegen.proofs.Rows.{stands-front, stands-past}
 use Rattle.codegen.proofs.Outcomes.{Reaches, reaches-then, by-row}
@@ -92,25 +92,16 @@ module _ (img : List ℕ) (at v : ℕ) (x : Scratch) (sp fp left : ℕ) (mem : L
   jumped q st = by-row img (go-to q) code refl tt st (omega arith) (rw from-bytes refl)
 
   -- a branch: the value is 0 and the jump is gone over, or it is not
-  abbrev branch-row : ℕ → List Instruction
-  branch-row q = constant work q ++ (ZERO value 1 ∷ [])
-
   pub branch-not-taken : (q : ℕ) → Stands img at (go-unless-zero q) → eqb v 0 ≡ true → From (at-work (past (go-unless-zero q) at) v (with-work x q) sp fp left mem s)
-  branch-not-taken q st z = by-row img (branch-row q) code refl tt (stands-front img (branch-row q) (JUMP back work ∷ []) at st) (omega arith) (rw (from-bytes, z) refl)
+  branch-not-taken q st z = by-row img (zero-test q) code refl tt (stands-front img (zero-test q) (JUMP back work ∷ []) at st) (omega arith) (rw (from-bytes, z) refl)
 
   pub branch-taken : (q : ℕ) → Stands img at (go-unless-zero q) → eqb v 0 ≡ false →
       From (at-work q v (record { in-work = q; in-back = past (go-unless-zero q) at; in-spare = x .in-spare }) sp fp left mem s)
-  branch-taken q st z = reaches-then {m′ = at-work (past (branch-row q) at) v (with-work x q) sp fp left mem s}
-      (by-row img (branch-row q) code refl tt (stands-front img (branch-row q) (JUMP back work ∷ []) at st) (omega arith) (rw (from-bytes, z) refl))
-      (by-row img (JUMP back work ∷ []) code refl tt (stands-past img (branch-row q) (JUMP back work ∷ []) at st) (omega arith) refl)
+  branch-taken q st z = reaches-then {m′ = at-work (past (zero-test q) at) v (with-work x q) sp fp left mem s}
+      (by-row img (zero-test q) code refl tt (stands-front img (zero-test q) (JUMP back work ∷ []) at st) (omega arith) (rw (from-bytes, z) refl))
+      (by-row img (JUMP back work ∷ []) code refl tt (stands-past img (zero-test q) (JUMP back work ∷ []) at st) (omega arith) refl)
 
   -- a cell whose number is the value: it is there, or it is not
-  abbrev cell-test : ℕ → ℕ → ℕ → ℕ → List Instruction
-  cell-test x limit flag n = constant limit n ++ (LESS flag x limit ∷ SUB flag one flag ∷ ZERO flag 1 ∷ [])
-
-  abbrev fetch-cell : List Instruction
-  fetch-cell = cell-place work value ++ (LOAD value work 0 ∷ [])
-
   pub cell-loaded : (n : ℕ) → Stands img at (load-cell n) → n ≤ most-cells → ltb v n ≡ true →
       From (at-work (past (load-cell n) at) (word mem (cells-base + v)) (record { in-work = cells-base + v; in-back = 0; in-spare = x .in-spare }) sp fp left mem s)
   cell-loaded n st most lt =
@@ -128,9 +119,6 @@ module _ (img : List ℕ) (at v : ℕ) (x : Scratch) (sp fp left : ℕ) (mem : L
       (by-row img (INDEX ∷ []) code refl tt (stands-front img (INDEX ∷ []) fetch-cell (past (cell-test value work back n) at) (stands-past img (cell-test value work back n) (INDEX ∷ fetch-cell) at st)) (omega arith) refl)
 
   -- a cell whose number is the stack's lowest word takes the value, or it is not there
-  abbrev keep-cell : List Instruction
-  keep-cell = cell-place back work ++ (STORE value back 0 ∷ [])
-
   abbrev popped-test : ℕ → List Instruction
   popped-test n = pop ++ cell-test work back spare n
 

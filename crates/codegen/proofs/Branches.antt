@@ -1,28 +1,26 @@
 -- The heart, for 'if' and 'while': which way a test goes, given what the code of their statements does, and what a further
 -- turn of a loop does.
-use mathlib.Core.Path.{_≡_, refl, sym, _∙_, subst}
-use mathlib.Core.Bool.{Bool, true, false, _&&_, cond}
-use mathlib.Core.List.{List, [], _∷_, _++_}
-use Prim.Native.Nat.{ℕ, suc, _+_, _-_, _<_, _≤_, max}
+use mathlib.Core.Path.{_≡_, refl, sym, subst}
+use mathlib.Core.Bool.{Bool, true, false, cond}
+use mathlib.Core.List.{List, _++_}
+use Prim.Native.Nat.{ℕ, suc, _+_, _-_, _≤_}
 use native.Mathlib.Omega.{arith}
 use lib.Dec.{T, eqb}
-use lib.ListN.{length}
 use Rattle.machine.specs.Machine.{Machine}
-use Rattle.language.specs.Language.{Expr, Stmt, if, while, Program, State, Outcome, fine, ends, spent, bind, exec, height, stmt-height}
-use Rattle.language.specs.Limits.{fits-stmt}
+use Rattle.language.specs.Language.{Expr, Stmt, if, while, Program, State, Outcome, fine, ends, spent, bind, height, stmt-height}
 use Rattle.codegen.specs.Layout.{stack-top, stack-base}
 use Rattle.codegen.specs.Instructions.{Instruction, past, Stands}
 use Rattle.codegen.specs.Codegen.{go-to, go-unless-zero, end-of-expr, end-of-stmt, else-place, then-place, loop-place, code-stmt}
-use Rattle.codegen.specs.Heart.{Scratch, at-work, Holds, Changed-within, Value-in-place, Statement-done, Does}
+use Rattle.codegen.specs.Heart.{stmt-ok, Scratch, at-work, Holds, Changed-within, Value-in-place, Statement-done, Does}
 use Rattle.codegen.proofs.Outcomes.{along, along-more, arrived, does-bind, weaken}
 use Rattle.codegen.proofs.Blocks.{jumped, branch-not-taken, branch-taken}
 use Rattle.codegen.proofs.Holding.{changed-wider, changed-then}
-use Rattle.codegen.proofs.Behind.{If-stands, if-stands, While-stands, while-stands}
+use Rattle.codegen.proofs.Behind.{if-stands, while-stands}
 
 -- what a statement's code does, where its run is 'run' and takes at least n steps if the fuel is spent
 abbrev pub Runs-stmt : List ℕ → Program → ℕ → ℕ → ℕ → (State → Outcome) → Stmt → Type 0
 Runs-stmt img g locals n left run c = (rest : List Instruction) (s : State) (at v : ℕ) (x : Scratch) (fp : ℕ) (mem : List ℕ) →
-    Stands img at (code-stmt g c at rest) → T (fits-stmt locals (g .globals) (length (g .procs)) c) →
+    Stands img at (code-stmt g c at rest) → T (stmt-ok g locals c) →
     Holds img g locals s fp mem → stack-base + left + stmt-height c ≤ fp → fp + locals ≤ stack-top →
     Does n (Statement-done img g locals (end-of-stmt c at) fp left (stmt-height c) mem) (run s) (at-work at v x fp fp left mem s)
 
@@ -48,7 +46,7 @@ module _ (img : List ℕ) (g : Program) (locals n left : ℕ)
   -- 'if', after its test
   pub if-run : (e : Expr) (s t : Stmt) → Runs-stmt img g locals (suc n) left (run s) s → Runs-stmt img g locals (suc n) left (run t) t →
       (rest : List Instruction) (at fp : ℕ) (mem : List ℕ) (k : ℕ) (now : State) (m : Machine) → Stands img at (code-stmt g (if e s t) at rest) →
-      T (fits-stmt locals (g .globals) (length (g .procs)) s) → T (fits-stmt locals (g .globals) (length (g .procs)) t) →
+      T (stmt-ok g locals s) → T (stmt-ok g locals t) →
       Value-in-place img g locals (end-of-expr e at) fp fp left (height e) mem k now m →
       stack-base + left + stmt-height (if e s t) ≤ fp → fp + locals ≤ stack-top → (zero? : Bool) → eqb k 0 ≡ zero? →
       Does (suc n) (Statement-done img g locals (end-of-stmt (if e s t) at) fp left (stmt-height (if e s t)) mem) (cond zero? (run t now) (run s now)) m
@@ -90,7 +88,7 @@ module _ (img : List ℕ) (g : Program) (locals n left : ℕ)
   -- 'while', after its test
   pub while-run : (e : Expr) (c : Stmt) → Runs-stmt img g locals (suc n) left (run c) c → Runs-stmt img g locals n left (turn e c) (while e c) →
       (rest : List Instruction) (at fp : ℕ) (mem : List ℕ) (k : ℕ) (now : State) (m : Machine) → Stands img at (code-stmt g (while e c) at rest) →
-      T (fits-stmt locals (g .globals) (length (g .procs)) (while e c)) → T (fits-stmt locals (g .globals) (length (g .procs)) c) →
+      T (stmt-ok g locals (while e c)) → T (stmt-ok g locals c) →
       Value-in-place img g locals (end-of-expr e at) fp fp left (height e) mem k now m →
       stack-base + left + stmt-height (while e c) ≤ fp → fp + locals ≤ stack-top → (zero? : Bool) → eqb k 0 ≡ zero? →
       Does (suc n) (Statement-done img g locals (end-of-stmt (while e c) at) fp left (stmt-height (while e c)) mem) (cond zero? (fine 0 now) (bind (run c now) (λ v r. turn e c r))) m

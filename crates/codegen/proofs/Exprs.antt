@@ -2,8 +2,8 @@
 -- then the induction over the expression.
 use mathlib.Core.Path.{_≡_, refl, sym, _∙_, ap, subst}
 use mathlib.Core.Bool.{Bool, true, false, _&&_, cond}
-use mathlib.Core.List.{List, [], _∷_, _++_}
-use Prim.Native.Nat.{ℕ, suc, _+_, _-_, _/_, _<_, _≤_}
+use mathlib.Core.List.{List, _++_}
+use Prim.Native.Nat.{ℕ, suc, _+_, _-_, _<_, _≤_}
 use native.Mathlib.Omega.{arith}
 use lib.Dec.{T, ltb, ltb→lt, lit<}
 use lib.ListN.{length}
@@ -11,13 +11,13 @@ use Rattle.std.proofs.shelf.Lists.{getD-set-same}
 use Rattle.std.proofs.shelf.Tests.{ltb-true}
 use Rattle.words.specs.Words.{add16, sub16, less16, nand16, half16, word, put}
 use Rattle.words.specs.Runs.{ended-index}
-use Rattle.machine.specs.Machine.{Machine, halt}
-use Rattle.language.specs.Language.{Expr, num, loc, glob, cell, add, sub, nand, less, half, call, Program, State, Outcome, fine, ends, spent, bind, if-cell, eval, height, both-height}
-use Rattle.language.specs.Limits.{most-globals, most-cells, fits-expr}
+use Rattle.machine.specs.Machine.{Machine}
+use Rattle.language.specs.Language.{Expr, num, loc, glob, cell, add, sub, nand, less, half, call, Program, State, Outcome, fine, ends, bind, if-cell, eval, height, both-height}
+use Rattle.language.specs.Limits.{most-globals, most-cells}
 use Rattle.codegen.specs.Layout.{stack-top, stack-base, cells-base, globals-base, value}
 use Rattle.codegen.specs.Instructions.{Instruction, past, Stands}
 use Rattle.codegen.specs.Codegen.{constant, push, pop, go-to, add-code, sub-code, nand-code, less-code, load-local, load-global, load-cell, halve, end-of-two, end-of-expr, entry, code-expr}
-use Rattle.codegen.specs.Heart.{Scratch, at-work, Has-code, Holds, Value-in-place, Does}
+use Rattle.codegen.specs.Heart.{expr-ok, Scratch, at-work, Has-code, Holds, Value-in-place, Does}
 use Rattle.codegen.proofs.Rows.{both, stands-front, stands-past}
 use Rattle.codegen.proofs.Outcomes.{Reaches, by-row, along, along-more, arrived, has-ended, does-bind, weaken}
 use Rattle.codegen.proofs.Blocks.{number-made, local-loaded, global-loaded, pushed, popped, jumped, halved, cell-loaded, cell-missing, with-work}
@@ -55,14 +55,14 @@ module _ (img : List ℕ) (g : Program) (few-globals : g .globals ≤ most-globa
     (locals n left : ℕ) (call-proc : ℕ → ℕ → State → Outcome) (calls : Calls-run img g n left call-proc) where
   abbrev pub Runs : Expr → Type 0
   Runs e = (rest : List Instruction) (s : State) (at v : ℕ) (x : Scratch) (sp fp : ℕ) (mem : List ℕ) →
-      Stands img at (code-expr g e rest) → T (fits-expr locals (g .globals) (length (g .procs)) e) →
+      Stands img at (code-expr g e rest) → T (expr-ok g locals e) →
       Holds img g locals s fp mem → stack-base + left + height e ≤ sp → sp ≤ fp → fp + locals ≤ stack-top →
       Does (suc n) (Value-in-place img g locals (end-of-expr e at) sp fp left (height e) mem) (eval call-proc e s) (at-work at v x sp fp left mem s)
 
   two-run : (operation : List Instruction) (f : ℕ → ℕ → ℕ) → Operates operation f → (a b : Expr) → Runs a → Runs b →
       (rest : List Instruction) (s : State) (at v : ℕ) (x : Scratch) (sp fp : ℕ) (mem : List ℕ) →
       Stands img at (code-expr g a (push ++ code-expr g b (pop ++ (operation ++ rest)))) →
-      T (fits-expr locals (g .globals) (length (g .procs)) a && fits-expr locals (g .globals) (length (g .procs)) b) →
+      T (expr-ok g locals a && expr-ok g locals b) →
       Holds img g locals s fp mem → stack-base + left + both-height (height a) (height b) ≤ sp → sp ≤ fp → fp + locals ≤ stack-top →
       Does (suc n) (Value-in-place img g locals (end-of-two operation (end-of-expr b (past push (end-of-expr a at)))) sp fp left (both-height (height a) (height b)) mem)
       (bind (eval call-proc a s) (λ u t. bind (eval call-proc b t) (λ w r. fine (f u w) r))) (at-work at v x sp fp left mem s)
@@ -70,7 +70,7 @@ module _ (img : List ℕ) (g : Program) (few-globals : g .globals ≤ most-globa
       let end-a : ℕ = end-of-expr a at in
       let end-b : ℕ = end-of-expr b (past push end-a) in
       let Q : ℕ → State → Machine → Type 0 = Value-in-place img g locals (end-of-two operation end-b) sp fp left (both-height (height a) (height b)) mem in
-      let oks = both (fits-expr locals (g .globals) (length (g .procs)) a) (fits-expr locals (g .globals) (length (g .procs)) b) ok in
+      let oks = both (expr-ok g locals a) (expr-ok g locals b) ok in
       let second : List Instruction = code-expr g b (pop ++ (operation ++ rest)) in
       let at-push = behind-expr img g a (push ++ second) at st in
       let at-second = stands-past img push second end-a at-push in
@@ -176,7 +176,7 @@ module _ (img : List ℕ) (g : Program) (few-globals : g .globals ≤ most-globa
       (record { scratch = A .scratch; memory = A .memory; is = refl; holds = A .holds; frames-kept = A .frames-kept }))))
   expr-runs (call f a) rest s at v x sp fp mem st ok h low in-frame high =
       let Q : ℕ → State → Machine → Type 0 = Value-in-place img g locals (end-of-expr (call f a) at) sp fp left (height a) mem in
-      let oks = both (ltb f (length (g .procs))) (fits-expr locals (g .globals) (length (g .procs)) a) ok in
+      let oks = both (ltb f (length (g .procs))) (expr-ok g locals a) ok in
       let way : List Instruction = go-to (entry g f) in
       does-bind (suc n) (Value-in-place img g locals (end-of-expr a at) sp fp left (height a) mem) Q (eval call-proc a s) (λ u t. call-proc f u t) (at-work at v x sp fp left mem s)
       (expr-runs a (way ++ rest) s at v x sp fp mem st (oks .1) h low in-frame high)

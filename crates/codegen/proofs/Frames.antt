@@ -1,31 +1,28 @@
 -- A procedure's frame: the test for room; the further locals set to 0; the frame that stands after its making, and that
 -- memory then holds the procedure's own state.
-use mathlib.Core.Path.{_≡_, refl, sym, _∙_, ap, subst}
-use mathlib.Core.Bool.{Bool, true, false}
-use mathlib.Core.List.{List, [], _∷_, _++_}
+use mathlib.Core.Path.{_≡_, refl, sym, _∙_, ap}
+use mathlib.Core.Bool.{true, false}
+use mathlib.Core.List.{List, [], _∷_}
 use Prim.Native.Nat.{ℕ, zero, suc, _+_, _-_, _<_, _≤_}
 use native.Mathlib.Omega.{arith}
 use lib.Dec.{ltb}
 use lib.ListN.{length, replicate, length-replicate, length-set}
 use Rattle.std.proofs.shelf.Lists.{getD-set-same, getD-set-other}
-use Rattle.words.specs.Words.{add16, sub16, word, put, memory-size}
+use Rattle.words.specs.Words.{add16, word, put, memory-size}
 use Rattle.words.specs.Runs.{ended-full}
 use Rattle.words.proofs.Memory.{word-of-zeros, cleared, cleared-none, cleared-more, length-cleared, cleared-below, cleared-above, cleared-is}
 use Rattle.machine.specs.Machine.{Machine, halt}
-use Rattle.language.specs.Language.{Proc, Program, State, with-locals, frame-size, stmt-height}
+use Rattle.language.specs.Language.{Proc, Program, State, with-locals, frame-size}
 use Rattle.language.specs.Limits.{most-globals, most-cells}
-use Rattle.codegen.specs.Layout.{stack-top, stack-base, code-limit, cells-base, globals-base, room, work, spare}
-use Rattle.codegen.specs.Instructions.{Instruction, LESS, STORE, ZERO, FULL, past, Stands}
-use Rattle.codegen.specs.Codegen.{constant, check-room, make-frame, clear-words}
+use Rattle.codegen.specs.Layout.{stack-top, stack-base, code-limit, cells-base, globals-base, work, spare}
+use Rattle.codegen.specs.Instructions.{STORE, FULL, past, Stands}
+use Rattle.codegen.specs.Codegen.{room-test, check-room, clear-words}
 use Rattle.codegen.specs.Heart.{Scratch, at-work, Has-code, Holds}
 use Rattle.codegen.proofs.Rows.{stands-front, stands-past}
 use Rattle.codegen.proofs.Outcomes.{Reaches, reaches-then, by-row}
 use Rattle.codegen.proofs.Blocks.{from-bytes}
 
--- The test for room, up to the word that ends the run.
-abbrev room-test : Proc → List Instruction
-room-test p = constant work (frame-size p) ++ (LESS spare room work ∷ ZERO spare 1 ∷ [])
-
+-- The test for room.
 module _ (img : List ℕ) (p : Proc) (at v : ℕ) (x : Scratch) (sp fp left : ℕ) (mem : List ℕ) (s : State) (code : Has-code img mem) (st : Stands img at (check-room p)) where
   pub no-room : ltb left (frame-size p) ≡ true →
       Reaches (at-work at v x sp fp left mem s) (halt (at-work (past (room-test p) at) v (record { in-work = frame-size p; in-back = x .in-back; in-spare = 1 }) sp fp left mem s) ended-full)

@@ -1,13 +1,13 @@
 -- Memory goes on holding a state: after a store to the stack below the locals; after a store to a local, a global or a cell,
 -- which the state takes too; with words put out or taken. And which words of the stack have changed: none, one, those of
 -- two parts of a run.
-use mathlib.Core.Path.{_≡_, refl, _∙_}
+use mathlib.Core.Path.{refl, _∙_}
 use mathlib.Core.List.{List}
 use Prim.Native.Nat.{ℕ, _+_, _<_, _≤_}
 use native.Mathlib.Omega.{arith}
 use lib.ListN.{length-set}
 use Rattle.std.proofs.shelf.Lists.{getD-set-other}
-use Rattle.words.specs.Words.{word, put}
+use Rattle.words.specs.Words.{put}
 use Rattle.words.proofs.Memory.{put-both}
 use Rattle.language.specs.Language.{Program, State, set-local, set-global, set-cell}
 use Rattle.language.specs.Limits.{most-globals, most-cells}

@@ -2,27 +2,26 @@
 -- promise.
 use mathlib.Core.Path.{_≡_, refl, sym, _∙_, ap, subst}
 use mathlib.Core.List.{List, [], _∷_, _++_, map}
-use Prim.Native.Nat.{ℕ, zero, suc, _+_, _-_, _*_, _<_, _≤_}
+use Prim.Native.Nat.{ℕ, zero, suc, _+_, _-_, _<_, _≤_}
 use native.Mathlib.Decide.{decLe}
 use native.Mathlib.Omega.{arith}
-use lib.Dec.{T, lit<}
+use lib.Dec.{lit<}
 use lib.ListN.{length, replicate, length-replicate, length-append, length-map}
 use Rattle.std.proofs.shelf.Lists.{getD-append-left}
-use Rattle.words.specs.Words.{word, memory-size, All, Is-memory, Is-tape}
-use Rattle.words.specs.Runs.{Seen, Follows, running}
+use Rattle.words.specs.Words.{word, memory-size, All}
+use Rattle.words.specs.Runs.{Seen, running}
 use Rattle.words.proofs.Memory.{word-behind}
 use Rattle.words.proofs.Runs.{tracks-follows}
-use Rattle.machine.specs.Machine.{Machine, step, steps, begin, seen-machine, machine-run}
+use Rattle.machine.specs.Machine.{Machine, steps, begin, seen-machine, machine-run}
 use Rattle.machine.proofs.Steps.{steps-add, steps-from, steps-halted, machine-grows}
 use Rattle.language.specs.Language.{Program, Outcome, fine, ends, spent, source, seen-outcome, program-run, frame-room}
-use Rattle.language.specs.Limits.{fits}
-use Rattle.codegen.specs.Layout.{stack-top, stack-base, globals-base, code-limit}
+use Rattle.codegen.specs.Layout.{stack-top, globals-base, code-limit}
 use Rattle.codegen.specs.Instructions.{Instruction, ADD, SUB, NAND, LESS, HALF, LOW, HIGH, LOAD, STORE, ZERO, JUMP, IN, OUT, DONE, INDEX, FULL, encode, Within-widths, Stands}
-use Rattle.codegen.specs.Codegen.{code, image, first-proc, end-of-procs}
+use Rattle.codegen.specs.Codegen.{code, image}
 use Rattle.codegen.specs.Top.{Leaves-top, Leaves-top-for}
 use Rattle.codegen.specs.Heart.{at-work, Value-in-place, Does}
 use Rattle.codegen.specs.Promise.{Right-image, Images-right}
-use Rattle.codegen.proofs.Rows.{more-steps, Row-done, row}
+use Rattle.codegen.proofs.Rows.{more-steps, row}
 use Rattle.codegen.proofs.Limits.{Within-limits, within-limits}
 use Rattle.codegen.proofs.Sizes.{code-length, end-within}
 use Rattle.codegen.proofs.Widths.{All-within, code-within}

@@ -2,12 +2,11 @@
 -- a row of instructions, and 'Does' after some steps, after a part of the run, and with less asked for.
 use mathlib.Core.Path.{_≡_, refl, sym, _∙_, ap, subst}
 use mathlib.Core.Bool.{_&&_}
-use mathlib.Core.List.{List, [], _∷_}
+use mathlib.Core.List.{List}
 use Prim.Native.Nat.{ℕ, zero, suc, _+_, _<_, _≤_}
 use native.Mathlib.Omega.{arith}
 use lib.Dec.{T, ltb, ltb→lt}
 use lib.ListN.{length}
-use Rattle.words.specs.Words.{word}
 use Rattle.words.specs.Runs.{running}
 use Rattle.machine.specs.Machine.{Machine, steps, seen-machine}
 use Rattle.machine.proofs.Steps.{steps-add}

@@ -1,24 +1,24 @@
 -- A procedure's code, given what its body's code does: where its parts stand; the frame is made; the frame is left; the call
 -- as a whole, with and without room.
-use mathlib.Core.Path.{_≡_, refl, sym, _∙_, ap, subst}
+use mathlib.Core.Path.{_≡_, refl, sym, _∙_, subst}
 use mathlib.Core.Bool.{Bool, true, false, cond}
-use mathlib.Core.List.{List, [], _∷_, _++_}
-use Prim.Native.Nat.{ℕ, zero, suc, _+_, _-_, _<_, _≤_}
+use mathlib.Core.List.{List, _∷_, _++_}
+use Prim.Native.Nat.{ℕ, suc, _+_, _-_, _≤_}
 use native.Mathlib.Omega.{arith}
 use lib.Dec.{T, ltb, lit<}
-use lib.ListN.{length, replicate}
+use lib.ListN.{replicate}
 use Rattle.std.proofs.shelf.Lists.{getD-set-other}
 use Rattle.std.proofs.shelf.Tests.{ltb-false}
 use Rattle.words.specs.Words.{add16, sub16, word, put}
 use Rattle.words.specs.Runs.{ended-full}
 use Rattle.words.proofs.Memory.{cleared}
 use Rattle.machine.specs.Machine.{Machine}
-use Rattle.language.specs.Language.{Stmt, Proc, Program, State, with-locals, Outcome, fine, ends, spent, bind, frame-size, stmt-height, enter}
-use Rattle.language.specs.Limits.{most-globals, most-cells, fits-stmt}
+use Rattle.language.specs.Language.{Stmt, Proc, Program, State, with-locals, Outcome, fine, ends, bind, frame-size, stmt-height}
+use Rattle.language.specs.Limits.{most-globals, most-cells}
 use Rattle.codegen.specs.Layout.{stack-top, stack-base}
 use Rattle.codegen.specs.Instructions.{Instruction, past, Stands}
 use Rattle.codegen.specs.Codegen.{check-room, make-frame, clear-words, leave-frame, body-place, end-of-stmt, end-of-proc, code-stmt, code-proc}
-use Rattle.codegen.specs.Heart.{Scratch, at-work, Has-code, Holds, Value-in-place, Statement-done, Does}
+use Rattle.codegen.specs.Heart.{stmt-ok, Scratch, at-work, Has-code, Holds, Value-in-place, Statement-done, Does}
 use Rattle.codegen.proofs.Rows.{stands-front, stands-past}
 use Rattle.codegen.proofs.Outcomes.{Reaches, reaches-then, by-row, along, along-more, arrived, has-ended, does-bind}
 use Rattle.codegen.proofs.Blocks.{from-bytes}
@@ -134,7 +134,7 @@ module _ (img : List ℕ) (g : Program) (few-globals : g .globals ≤ most-globa
       })))
 
   -- the call, with and without room
-  pub call-runs : Runs-stmt img g (1 + p .locals) n inside (run-body (p .body)) (p .body) → T (fits-stmt (1 + p .locals) (g .globals) (length (g .procs)) (p .body)) → (full : Bool) → ltb left (frame-size p) ≡ full →
+  pub call-runs : Runs-stmt img g (1 + p .locals) n inside (run-body (p .body)) (p .body) → T (stmt-ok g (1 + p .locals) (p .body)) → (full : Bool) → ltb left (frame-size p) ≡ full →
       Does (suc n) (Value-in-place img g locals (x .in-back) sp fp left 0 mem)
       (cond full (ends ended-full s) (bind (run-body (p .body) own) (λ k t. fine (word (t .locals) 0) (with-locals t (s .locals))))) (at-work at v x sp fp left mem s)
   call-runs body ok true e =

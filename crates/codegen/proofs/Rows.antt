@@ -9,7 +9,7 @@ use native.Mathlib.Omega.{arith}
 use lib.Dec.{T}
 use lib.ListN.{length}
 use Rattle.std.proofs.shelf.Lists.{getD-set-other}
-use Rattle.words.specs.Words.{add16, word, put, All}
+use Rattle.words.specs.Words.{add16, word, All}
 use Rattle.words.specs.Runs.{running}
 use Rattle.machine.specs.Machine.{Machine, register, step, steps}
 use Rattle.machine.proofs.Steps.{steps-add}

@@ -1,17 +1,17 @@
 -- How long code is: it ends where 'end-of-..' says; at most 10 words a sign and 80 a procedure; so the code of a program
 -- within the limits leaves room for the globals.
-use mathlib.Core.Path.{_≡_, refl, sym, _∙_, ap}
+use mathlib.Core.Path.{_≡_, refl, _∙_, ap}
 use mathlib.Core.List.{List, [], _∷_, _++_}
-use Prim.Native.Nat.{ℕ, zero, suc, _+_, _*_, _<_, _≤_}
+use Prim.Native.Nat.{ℕ, zero, suc, _+_, _*_, _≤_}
 use native.Mathlib.Omega.{arith}
 use lib.Dec.{T}
 use lib.ListN.{length}
 use Rattle.language.specs.Language.{Expr, num, loc, glob, cell, add, sub, nand, less, half, call, Stmt, skip, then, setloc, setglob, setcell, if, while, out, take, Proc, Program}
-use Rattle.language.specs.Limits.{most-locals, most-procs, most-signs, fits-procs, signs-expr, signs-stmt, signs}
+use Rattle.language.specs.Limits.{fits-procs, signs-expr, signs-stmt, signs}
 use Rattle.codegen.specs.Layout.{code-limit}
 use Rattle.codegen.specs.Instructions.{Instruction, past}
-use Rattle.codegen.specs.Codegen.{push, pop, go-to, go-unless-zero, add-code, sub-code, nand-code, less-code, load-cell, halve, store-local, store-global, store-cell, put-out, end-of-two, end-of-expr, end-of-stmt, else-place, then-place, loop-place, check-room, make-frame, clear-words, leave-frame, body-place, end-of-proc, end-of-procs, proc-place, start-code, first-proc, entry, code-expr, code-stmt, code-proc, code-procs, code}
-use Rattle.codegen.proofs.Limits.{Within-limits, First-fits, first-fits}
+use Rattle.codegen.specs.Codegen.{push, pop, go-to, go-unless-zero, add-code, sub-code, nand-code, less-code, load-cell, halve, store-local, store-global, store-cell, put-out, end-of-two, end-of-expr, end-of-stmt, else-place, then-place, loop-place, check-room, make-frame, clear-words, leave-frame, body-place, end-of-proc, end-of-procs, proc-place, start-code, first-proc, entry, code-expr, code-stmt, code-procs, code}
+use Rattle.codegen.proofs.Limits.{Within-limits, first-fits}
 
 -- the place after two rows, and after a row of so many
 pub past-++ : (is rest : List Instruction) (at : ℕ) → past (is ++ rest) at ≡ past rest (past is at)

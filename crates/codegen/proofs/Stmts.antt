@@ -6,20 +6,19 @@ use mathlib.Core.List.{List, [], _∷_, _++_}
 use Prim.Native.Nat.{ℕ, suc, _+_, _-_, _<_, _≤_}
 use native.Mathlib.Omega.{arith}
 use lib.Dec.{T, eqb, ltb, ltb→lt, lit<}
-use lib.ListN.{length}
 use Rattle.std.proofs.shelf.Lists.{getD-set-same}
 use Rattle.std.proofs.shelf.Tests.{ltb-true}
 use Rattle.words.specs.Words.{word, put, front}
 use Rattle.words.specs.Words as words
 use Rattle.words.specs.Runs.{ended-index}
 use Rattle.machine.specs.Machine.{Machine}
-use Rattle.language.specs.Language.{Expr, Stmt, skip, then, setloc, setglob, setcell, if, while, out, take, Program, State, set-local, set-global, set-cell, take-word, Outcome, fine, ends, spent, bind, if-cell, eval, exec, height, stmt-height}
+use Rattle.language.specs.Language.{Expr, Stmt, skip, then, setloc, setglob, setcell, if, while, out, take, Program, State, set-local, set-global, set-cell, take-word, Outcome, fine, ends, bind, if-cell, eval, exec, height, stmt-height}
 use Rattle.language.specs.Language as language
-use Rattle.language.specs.Limits.{most-globals, most-cells, fits-expr, fits-stmt}
+use Rattle.language.specs.Limits.{most-globals, most-cells}
 use Rattle.codegen.specs.Layout.{stack-top, stack-base, cells-base, globals-base}
 use Rattle.codegen.specs.Instructions.{Instruction, past, Stands}
 use Rattle.codegen.specs.Codegen.{push, go-to, go-unless-zero, store-local, store-global, store-cell, put-out, take-to-local, end-of-expr, end-of-stmt, else-place, then-place, loop-place, code-expr, code-stmt}
-use Rattle.codegen.specs.Heart.{Scratch, at-work, Holds, Changed-within, Value-in-place, Statement-done, Does}
+use Rattle.codegen.specs.Heart.{expr-ok, stmt-ok, Scratch, at-work, Holds, Changed-within, Value-in-place, Statement-done, Does}
 use Rattle.codegen.proofs.Rows.{both, stands-front, stands-past}
 use Rattle.codegen.proofs.Outcomes.{Reaches, along, arrived, has-ended, does-bind, weaken}
 use Rattle.codegen.proofs.Blocks.{with-work, local-stored, global-stored, word-taken, word-shown, pushed, cell-stored, cell-not-stored}
@@ -33,7 +32,7 @@ module _ (img : List ℕ) (g : Program) (few-globals : g .globals ≤ most-globa
     (turn : Expr → Stmt → State → Outcome) (turns : (e : Expr) (c : Stmt) → Runs-stmt img g locals n left (turn e c) (while e c)) where
   -- an expression, with nothing on the stack below the frame, and then what follows it
   first : (e : Expr) (next : ℕ → State → Outcome) (Q : ℕ → State → Machine → Type 0) (rest : List Instruction) (s : State) (at v : ℕ) (x : Scratch) (fp : ℕ) (mem : List ℕ) →
-      Stands img at (code-expr g e rest) → T (fits-expr locals (g .globals) (length (g .procs)) e) → Holds img g locals s fp mem →
+      Stands img at (code-expr g e rest) → T (expr-ok g locals e) → Holds img g locals s fp mem →
       stack-base + left + height e ≤ fp → fp + locals ≤ stack-top →
       ((k : ℕ) (t : State) (A-memory : List ℕ) (A-scratch : Scratch) → Holds img g locals t fp A-memory → Changed-within (fp - (left + height e)) fp mem A-memory →
       Does (suc n) Q (next k t) (at-work (end-of-expr e at) k A-scratch fp fp left A-memory t)) →
@@ -75,7 +74,7 @@ module _ (img : List ℕ) (g : Program) (few-globals : g .globals ≤ most-globa
       (record { value = v; scratch = x; memory = mem; is = refl; holds = h; frames-kept = changed-none })
   stmt-runs (then a b) rest s at v x fp mem st ok h low high =
       let Q : ℕ → State → Machine → Type 0 = Statement-done img g locals (end-of-stmt (then a b) at) fp left (stmt-height (then a b)) mem in
-      let oks = both (fits-stmt locals (g .globals) (length (g .procs)) a) (fits-stmt locals (g .globals) (length (g .procs)) b) ok in
+      let oks = both (stmt-ok g locals a) (stmt-ok g locals b) ok in
       let end-a : ℕ = end-of-stmt a at in
       let second : List Instruction = code-stmt g b end-a rest in
       does-bind (suc n) (Statement-done img g locals end-a fp left (stmt-height a) mem) Q (exec call-proc turn a s) (λ k t. exec call-proc turn b t) (at-work at v x fp fp left mem s)
@@ -85,7 +84,7 @@ module _ (img : List ℕ) (g : Program) (few-globals : g .globals ≤ most-globa
       (stmt-runs b rest t end-a (A .value) (A .scratch) fp (A .memory) (behind-stmt img g a second at st) (oks .1) (A .holds) (omega arith) high)
       (done-after img g locals (end-of-stmt (then a b) at) fp left (stmt-height (then a b)) (stmt-height b) mem (A .memory) (changed-wider (A .frames-kept) (omega arith) (omega arith)) (omega arith))))
   stmt-runs (setloc i e) rest s at v x fp mem st ok h low high =
-      let oks = both (ltb i locals) (fits-expr locals (g .globals) (length (g .procs)) e) ok in
+      let oks = both (ltb i locals) (expr-ok g locals e) ok in
       let there : i < locals = ltb→lt i locals (oks .0) in
       let end : ℕ = end-of-stmt (setloc i e) at in
       let Q : ℕ → State → Machine → Type 0 = Statement-done img g locals end fp left (height e) mem in
@@ -96,7 +95,7 @@ module _ (img : List ℕ) (g : Program) (few-globals : g .globals ≤ most-globa
       (holds-local img g few-globals few-cells locals t fp mem₁ h₁ (omega arith) high i k there)
       (changed-then (changed-wider c (omega arith) (omega arith)) (changed-one mem₁ (fp + i) k (omega arith) (omega arith))))
   stmt-runs (setglob i e) rest s at v x fp mem st ok h low high =
-      let oks = both (ltb i (g .globals)) (fits-expr locals (g .globals) (length (g .procs)) e) ok in
+      let oks = both (ltb i (g .globals)) (expr-ok g locals e) ok in
       let there : i < g .globals = ltb→lt i (g .globals) (oks .0) in
       let end : ℕ = end-of-stmt (setglob i e) at in
       let Q : ℕ → State → Machine → Type 0 = Statement-done img g locals end fp left (height e) mem in
@@ -107,7 +106,7 @@ module _ (img : List ℕ) (g : Program) (few-globals : g .globals ≤ most-globa
       (holds-global img g few-globals few-cells locals t fp mem₁ h₁ (omega arith) high i k there)
       (changed-then (changed-wider c (omega arith) (omega arith)) (changed-data mem₁ (globals-base + i) k (omega arith) (omega arith))))
   stmt-runs (setcell e f) rest s at v x fp mem st ok h low high =
-      let oks = both (fits-expr locals (g .globals) (length (g .procs)) e) (fits-expr locals (g .globals) (length (g .procs)) f) ok in
+      let oks = both (expr-ok g locals e) (expr-ok g locals f) ok in
       let end-e : ℕ = end-of-expr e at in
       let end-f : ℕ = end-of-expr f (past push end-e) in
       let taken : ℕ = stmt-height (setcell e f) in
@@ -131,8 +130,8 @@ module _ (img : List ℕ) (g : Program) (few-globals : g .globals ≤ most-globa
       (changed-then (changed-wider c (omega arith) (omega arith)) (changed-then (changed-one mem₁ (fp - 1) i (omega arith) (omega arith)) (changed-wider (B .frames-kept) (omega arith) (omega arith))))
       (omega arith) high (ltb i (g .cells)) refl)))))
   stmt-runs (if e a b) rest s at v x fp mem st ok h low high =
-      let F : Stmt → Bool = fits-stmt locals (g .globals) (length (g .procs)) in
-      let oks = both (fits-expr locals (g .globals) (length (g .procs)) e) (F a && F b) ok in
+      let F : Stmt → Bool = stmt-ok g locals in
+      let oks = both (expr-ok g locals e) (F a && F b) ok in
       let oks-in = both (F a) (F b) (oks .1) in
       let run : Stmt → State → Outcome = exec call-proc turn in
       let behind : List Instruction = go-unless-zero (then-place e b at) ++ code-stmt g b (else-place e at) (go-to (end-of-stmt (if e a b) at) ++ code-stmt g a (then-place e b at) rest) in
@@ -140,7 +139,7 @@ module _ (img : List ℕ) (g : Program) (few-globals : g .globals ≤ most-globa
       if-run img g locals n left run turn e a b (stmt-runs a) (stmt-runs b) rest at fp mem k t (at-work (end-of-expr e at) k y fp fp left mem₁ t) st (oks-in .0) (oks-in .1)
       (record { scratch = y; memory = mem₁; is = refl; holds = h₁; frames-kept = c }) low high (eqb k 0) refl)
   stmt-runs (while e a) rest s at v x fp mem st ok h low high =
-      let oks = both (fits-expr locals (g .globals) (length (g .procs)) e) (fits-stmt locals (g .globals) (length (g .procs)) a) ok in
+      let oks = both (expr-ok g locals e) (stmt-ok g locals a) ok in
       let run : Stmt → State → Outcome = exec call-proc turn in
       let behind : List Instruction = go-unless-zero (loop-place e at) ++ (go-to (end-of-stmt (while e a) at) ++ code-stmt g a (loop-place e at) (go-to at ++ rest)) in
       first e (λ k t. cond (eqb k 0) (fine 0 t) (bind (run a t) (λ z u. turn e a u))) (Statement-done img g locals (end-of-stmt (while e a) at) fp left (stmt-height (while e a)) mem) behind s at v x fp mem st (oks .0) h (omega arith) high (λ k t mem₁ y h₁ c.

@@ -1,22 +1,20 @@
 -- A whole program, in every memory that has its code: the procedures stand at their entries; by induction on the fuel,
 -- statements and calls run; so the heart holds, and the machine does from its start what the program does.
-use mathlib.Core.Path.{_≡_, refl, sym, _∙_, ap, subst}
-use mathlib.Core.Bool.{Bool, true, false}
-use mathlib.Core.List.{List, [], _∷_, _++_}
+use mathlib.Core.Path.{_≡_, refl, sym, _∙_, subst}
+use mathlib.Core.List.{List, [], _∷_}
 use mathlib.Core.Option.{Option, some, none}
 use Prim.Native.Nat.{ℕ, zero, suc, _+_, _-_, _<_, _≤_}
 use native.Mathlib.Omega.{arith}
-use lib.Dec.{T, ltb, lit<, lit≤}
-use lib.ListN.{length, replicate, length-replicate}
+use lib.Dec.{ltb, lit≤}
+use lib.ListN.{length, length-replicate}
 use Rattle.words.specs.Words.{word, memory-size}
 use Rattle.words.proofs.Memory.{word-of-zeros}
-use Rattle.machine.specs.Machine.{Machine, begin}
-use Rattle.language.specs.Language.{Stmt, while, Proc, Program, State, start, source, Outcome, fine, ends, spent, enter, room-inside, proc-at, run-stmt, run-call, frame-size, frame-room}
-use Rattle.language.specs.Limits.{fits}
-use Rattle.codegen.specs.Layout.{stack-top, stack-base, globals-base, cells-base, stack, frame, room, one}
-use Rattle.codegen.specs.Instructions.{Instruction, LOW, DONE, past, Stands}
-use Rattle.codegen.specs.Codegen.{constant, go-to, start-code, first-proc, entry, proc-place, end-of-proc, code-proc, code-procs, code}
-use Rattle.codegen.specs.Heart.{Scratch, at-work, Has-code, Holds, Value-in-place, Does, Expression-runs, Statement-runs}
+use Rattle.machine.specs.Machine.{begin}
+use Rattle.language.specs.Language.{Stmt, while, Proc, Program, State, start, source, enter, room-inside, proc-at, run-stmt, run-call, frame-size, frame-room}
+use Rattle.codegen.specs.Layout.{stack-top, stack-base, globals-base, cells-base}
+use Rattle.codegen.specs.Instructions.{Instruction, DONE, past, Stands}
+use Rattle.codegen.specs.Codegen.{first-call, start-code, first-proc, entry, proc-place, end-of-proc, code-procs, code}
+use Rattle.codegen.specs.Heart.{Scratch, at-work, Holds, Value-in-place, Does, Expression-runs, Statement-runs}
 use Rattle.codegen.proofs.Rows.{stands-front, stands-past}
 use Rattle.codegen.proofs.Outcomes.{by-row, along, is-spent}
 use Rattle.codegen.proofs.Blocks.{from-bytes}
@@ -69,15 +67,12 @@ module _ (img : List ℕ) (g : Program) (within : Within-limits g) (st : Stands 
         calls = λ left locals f v s x sp fp mem there h low in-frame high. called n left (less .stmts) locals f v s x sp fp mem there h low in-frame high (proc-at (g .procs) f) refl;
       }
 
-  -- The start: the row up to the word after the call, which is 'done'.
-  abbrev pub start-row : List Instruction
-  start-row = constant stack stack-top ++ (constant frame stack-top ++ (constant room frame-room ++ (LOW one 1 ∷ go-to (entry g 0))))
-
+  -- The start: the call, and behind it 'done'.
   abbrev pub done-place : ℕ
-  done-place = past start-row 0
+  done-place = past (first-call (entry g 0)) 0
 
   pub done-stands : Stands img done-place (DONE ∷ [])
-  done-stands = stands-past img start-row (DONE ∷ []) 0 (stands-front img (start-code (entry g 0)) (code-procs g (g .procs) first-proc) 0 st)
+  done-stands = stands-past img (first-call (entry g 0)) (DONE ∷ []) 0 (stands-front img (start-code (entry g 0)) (code-procs g (g .procs) first-proc) 0 st)
 
   -- memory holds the program's first state if it has as many words as it should, and 0 in the globals and cells
   module _ (size : length img ≡ memory-size) (blank : (j : ℕ) → globals-base ≤ j → j < stack-base → word img j ≡ 0) where
@@ -101,7 +96,7 @@ module _ (img : List ℕ) (g : Program) (within : Within-limits g) (st : Stands 
         let some-proc = within .some-proc in
         let x : Scratch = record { in-work = entry g 0; in-back = done-place; in-spare = 0 } in
         along n (Value-in-place img g 0 done-place stack-top stack-top frame-room 0 img) (source g tape n) {m′ = at-work (entry g 0) 0 x stack-top stack-top frame-room img (start g tape)}
-        (by-row img start-row (λ j b. refl) refl tt (stands-front img start-row (DONE ∷ []) 0 (stands-front img (start-code (entry g 0)) (code-procs g (g .procs) first-proc) 0 st)) (omega arith) (rw (from-bytes (entry g 0)) refl))
+        (by-row img (first-call (entry g 0)) (λ j b. refl) refl tt (stands-front img (first-call (entry g 0)) (DONE ∷ []) 0 (stands-front img (start-code (entry g 0)) (code-procs g (g .procs) first-proc) 0 st)) (omega arith) (rw (from-bytes (entry g 0)) refl))
         (runs-with n .calls frame-room 0 0 0 (start g tape) x stack-top stack-top img (omega arith) (at-start tape) (lit≤ tt) (omega arith) (omega arith))
 
 -- The heart.

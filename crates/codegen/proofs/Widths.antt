@@ -1,19 +1,18 @@
 -- The fields of every instruction of a program's code are within their widths: rows one after the other; blocks; expressions
 -- and statements; a frame's size is a word; procedures; the whole.
-use mathlib.Core.Path.{_≡_, refl}
-use mathlib.Core.Bool.{Bool, _&&_}
+use mathlib.Core.Bool.{_&&_}
 use mathlib.Core.List.{List, [], _∷_, _++_}
-use Prim.Native.Nat.{ℕ, zero, suc, _+_, _/_, _%_, _<_, _≤_, max}
+use Prim.Native.Nat.{ℕ, zero, suc, _+_, _<_, _≤_}
 use native.Mathlib.Omega.{arith}
 use lib.Dec.{T, ltb, ltb→lt, lit<}
 use lib.ListN.{length}
-use Rattle.language.specs.Language.{Expr, num, loc, glob, cell, add, sub, nand, less, half, call, Stmt, skip, then, setloc, setglob, setcell, if, while, out, take, Proc, Program, height, stmt-height, frame-size}
+use Rattle.language.specs.Language.{Expr, num, loc, glob, cell, add, sub, nand, less, half, call, Stmt, skip, then, setloc, setglob, setcell, if, while, out, take, Proc, Program, height, stmt-height}
 use Rattle.language.specs.Limits.{most-globals, most-cells, most-locals, most-signs, fits-expr, fits-stmt, fits-procs, signs-expr, signs-stmt, signs}
-use Rattle.codegen.specs.Layout.{value, globals-base}
-use Rattle.codegen.specs.Instructions.{Instruction, DONE, Within-widths, past}
-use Rattle.codegen.specs.Codegen.{constant, push, pop, go-to, go-unless-zero, add-code, sub-code, nand-code, less-code, load-local, load-global, load-cell, halve, store-local, store-global, store-cell, put-out, take-to-local, end-of-expr, end-of-stmt, else-place, then-place, loop-place, check-room, make-frame, clear-words, leave-frame, body-place, end-of-proc, end-of-procs, start-code, first-proc, entry, code-expr, code-stmt, code-procs, code}
+use Rattle.codegen.specs.Layout.{value}
+use Rattle.codegen.specs.Instructions.{Instruction, Within-widths}
+use Rattle.codegen.specs.Codegen.{constant, push, pop, go-to, go-unless-zero, add-code, sub-code, nand-code, less-code, load-local, load-global, load-cell, halve, store-local, store-global, store-cell, put-out, take-to-local, end-of-stmt, else-place, then-place, loop-place, check-room, make-frame, clear-words, leave-frame, body-place, end-of-proc, end-of-procs, start-code, first-proc, entry, code-expr, code-stmt, code-procs, code}
 use Rattle.codegen.proofs.Rows.{both}
-use Rattle.codegen.proofs.Limits.{Within-limits, First-fits, first-fits}
+use Rattle.codegen.proofs.Limits.{Within-limits, first-fits}
 use Rattle.codegen.proofs.Sizes.{size-expr, size-stmt, size-procs, entry-within, end-within}
 
 abbrev pub All-within : List Instruction → Type 0

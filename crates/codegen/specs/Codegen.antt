@@ -28,20 +28,30 @@ push = SUB stack stack one ∷ STORE value stack 0 ∷ []
 abbrev pub pop : List Instruction
 pop = LOAD work stack 0 ∷ ADD stack stack one ∷ []
 
--- goes over the next word if register x is below n, and ends the run with 'index' there if it isn't
+-- goes over the next word if register x is below n; two more registers are used for it
+abbrev pub cell-test : ℕ → ℕ → ℕ → ℕ → List Instruction
+cell-test x limit flag n = constant limit n ++ (LESS flag x limit ∷ SUB flag one flag ∷ ZERO flag 1 ∷ [])
+
+-- ends the run with 'index' unless register x is below n, the number of cells: a place is tested before it is added to the
+-- cells' base, so that it can't wrap
 abbrev pub check-cell : ℕ → ℕ → ℕ → ℕ → List Instruction
-check-cell x limit flag n = constant limit n ++ (LESS flag x limit ∷ SUB flag one flag ∷ ZERO flag 1 ∷ INDEX ∷ [])
+check-cell x limit flag n = cell-test x limit flag n ++ (INDEX ∷ [])
 
 -- register d takes the place of the cell whose number is in register x
 abbrev pub cell-place : ℕ → ℕ → List Instruction
 cell-place d x = constant d cells-base ++ (ADD d d x ∷ [])
 
+-- to the place q; 'back' takes the place of the word behind it
 abbrev pub go-to : ℕ → List Instruction
 go-to q = constant work q ++ (JUMP back work ∷ [])
 
+-- goes over the next word if the value is 0; 'work' takes the place q
+abbrev pub zero-test : ℕ → List Instruction
+zero-test q = constant work q ++ (ZERO value 1 ∷ [])
+
 -- to the place q unless the value is 0
 abbrev pub go-unless-zero : ℕ → List Instruction
-go-unless-zero q = constant work q ++ (ZERO value 1 ∷ JUMP back work ∷ [])
+go-unless-zero q = zero-test q ++ (JUMP back work ∷ [])
 
 -- Operations on two values: the first in 'work', the second in 'value'; the result comes to 'value'.
 abbrev pub add-code : List Instruction
@@ -63,8 +73,12 @@ load-local i = local-place i ++ (LOAD value work 0 ∷ [])
 abbrev pub load-global : ℕ → List Instruction
 load-global i = global-place i ++ (LOAD value work 0 ∷ [])
 
+-- the cell whose number is the value, of so many cells
+abbrev pub fetch-cell : List Instruction
+fetch-cell = cell-place work value ++ (LOAD value work 0 ∷ [])
+
 abbrev pub load-cell : ℕ → List Instruction
-load-cell cells = check-cell value work back cells ++ (cell-place work value ++ (LOAD value work 0 ∷ []))
+load-cell cells = check-cell value work back cells ++ fetch-cell
 
 abbrev pub halve : List Instruction
 halve = HALF value value ∷ []
@@ -76,8 +90,11 @@ abbrev pub store-global : ℕ → List Instruction
 store-global i = global-place i ++ (STORE value work 0 ∷ [])
 
 -- the cell's number is on the stack, and is tested after the value is worked out
+abbrev pub keep-cell : List Instruction
+keep-cell = cell-place back work ++ (STORE value back 0 ∷ [])
+
 abbrev pub store-cell : ℕ → List Instruction
-store-cell cells = pop ++ (check-cell work back spare cells ++ (cell-place back work ++ (STORE value back 0 ∷ [])))
+store-cell cells = pop ++ (check-cell work back spare cells ++ keep-cell)
 
 abbrev pub put-out : List Instruction
 put-out = OUT value ∷ []
@@ -126,9 +143,13 @@ then-place e t at = past (go-to 0) (end-of-stmt t (else-place e at))
 -- A procedure: a test for room, the making of the frame, the body, the way back. The frame has, from the frame pointer
 -- upwards: the argument, the further locals, the caller's frame pointer, the place to go back to.
 
--- goes over the next word if there is room for the frame, and ends the run with 'full' there if there isn't
+-- goes over the next word if there is room for the frame
+abbrev pub room-test : Proc → List Instruction
+room-test p = constant work (frame-size p) ++ (LESS spare room work ∷ ZERO spare 1 ∷ [])
+
+-- ends the run with 'full' unless there is room for the frame
 abbrev pub check-room : Proc → List Instruction
-check-room p = constant work (frame-size p) ++ (LESS spare room work ∷ ZERO spare 1 ∷ FULL ∷ [])
+check-room p = room-test p ++ (FULL ∷ [])
 
 -- 'spare' is 0 here, and 'work' has the frame's size
 abbrev pub make-frame : Proc → List Instruction
@@ -161,9 +182,12 @@ proc-place [] at f = at
 proc-place (p ∷ ps) at zero = at
 proc-place (p ∷ ps) at (suc f) = proc-place ps (end-of-proc p at) f
 
--- The start, at place 0: an empty stack, all room, and a call of the procedure at the place q; after it, done.
+-- The start, at place 0: an empty stack, all room, and a call with 0 of the procedure at the place q; after it, done.
+abbrev pub first-call : ℕ → List Instruction
+first-call q = constant stack stack-top ++ (constant frame stack-top ++ (constant room frame-room ++ (LOW one 1 ∷ go-to q)))
+
 abbrev pub start-code : ℕ → List Instruction
-start-code q = constant stack stack-top ++ (constant frame stack-top ++ (constant room frame-room ++ (LOW one 1 ∷ (go-to q ++ (DONE ∷ [])))))
+start-code q = first-call q ++ (DONE ∷ [])
 
 -- the procedures stand behind the start, in their order
 abbrev pub first-proc : ℕ

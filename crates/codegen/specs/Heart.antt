@@ -1,6 +1,7 @@
 -- The heart of the compiler: what the code of an expression and of a statement does, at any place of the code and with any
 -- frames below.
 use mathlib.Core.Path.{_≡_}
+use mathlib.Core.Bool.{Bool}
 use mathlib.Core.List.{List, [], _∷_}
 use Prim.Native.Nat.{ℕ, suc, _+_, _-_, _<_, _≤_}
 use lib.Dec.{T}
@@ -78,6 +79,13 @@ pub record Comes-to (Good : ℕ → Machine → Type 0) (m : Machine) : Type 0 w
   pub top : Leaves-top-for count m
   pub good : Good count (steps count m)
 
+-- an expression or statement of the program, in a procedure with so many locals, is within the limits
+abbrev pub expr-ok : Program → ℕ → Expr → Bool
+expr-ok g locals e = fits-expr locals (g .globals) (length (g .procs)) e
+
+abbrev pub stmt-ok : Program → ℕ → Stmt → Bool
+stmt-ok g locals c = fits-stmt locals (g .globals) (length (g .procs)) c
+
 -- What the machine does from m on, by how a part of the program's run comes out: it comes to where Good holds of the value
 -- and the state; or it halts in the same way, with the same words put out and left on the tape; or the fuel is spent, and
 -- the machine has gone on for at least as many steps, to the same words.
@@ -91,7 +99,7 @@ Does fuel Good (spent t) = Comes-to (λ k m. (seen-machine m ≡ seen-outcome (s
 abbrev pub Expression-runs : Type 0
 Expression-runs = (img : List ℕ) (g : Program) → T (fits g) → Stands img 0 (code g) →
     (fuel locals : ℕ) (e : Expr) (rest : List Instruction) (s : State) (at v : ℕ) (x : Scratch) (sp fp left : ℕ) (mem : List ℕ) →
-    Stands img at (code-expr g e rest) → T (fits-expr locals (g .globals) (length (g .procs)) e) →
+    Stands img at (code-expr g e rest) → T (expr-ok g locals e) →
     Holds img g locals s fp mem → stack-base + left + height e ≤ sp → sp ≤ fp → fp + locals ≤ stack-top →
     Does (suc fuel) (Value-in-place img g locals (end-of-expr e at) sp fp left (height e) mem) (eval (λ f u t. run-call fuel g left f u t) e s)
     (at-work at v x sp fp left mem s)
@@ -100,7 +108,7 @@ Expression-runs = (img : List ℕ) (g : Program) → T (fits g) → Stands img 0
 abbrev pub Statement-runs : Type 0
 Statement-runs = (img : List ℕ) (g : Program) → T (fits g) → Stands img 0 (code g) →
     (fuel locals : ℕ) (c : Stmt) (rest : List Instruction) (s : State) (at v : ℕ) (x : Scratch) (fp left : ℕ) (mem : List ℕ) →
-    Stands img at (code-stmt g c at rest) → T (fits-stmt locals (g .globals) (length (g .procs)) c) →
+    Stands img at (code-stmt g c at rest) → T (stmt-ok g locals c) →
     Holds img g locals s fp mem → stack-base + left + stmt-height c ≤ fp → fp + locals ≤ stack-top →
     Does fuel (Statement-done img g locals (end-of-stmt c at) fp left (stmt-height c) mem) (run-stmt fuel g left c s)
     (at-work at v x fp fp left mem s)

@@ -5,3 +5,4 @@ pub mod Codegen
 pub mod Top
 pub mod Heart
 pub mod Promise
+pub mod Example
