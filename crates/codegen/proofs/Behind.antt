@@ -13,7 +13,8 @@ module _ (img : List ℕ) (g : Program) where
   Behind e = (rest : List Instruction) (at : ℕ) → Stands img at (code-expr g e rest) → Stands img (end-of-expr e at) rest
 
   behind-two : (operation : List Instruction) (a b : Expr) → Behind a → Behind b → (rest : List Instruction) (at : ℕ) →
-      Stands img at (code-expr g a (push ++ code-expr g b (pop ++ (operation ++ rest)))) → Stands img (end-of-two operation (end-of-expr b (past push (end-of-expr a at)))) rest
+      Stands img at (code-expr g a (push ++ code-expr g b (pop ++ (operation ++ rest)))) →
+      Stands img (end-of-two operation (end-of-expr b (past push (end-of-expr a at)))) rest
   behind-two operation a b after-a after-b rest at st =
       let end-a : ℕ = end-of-expr a at in
       let end-b : ℕ = end-of-expr b (past push end-a) in

@@ -82,7 +82,8 @@ module _ (img : List ℕ) (at v : ℕ) (x : Scratch) (sp fp left : ℕ) (mem : L
       by-row img push code refl tt st (omega arith) (rw (down, same) refl)
 
   -- the stack's lowest word is that below the stack pointer 'top'
-  pub popped : (top : ℕ) → Stands img at pop → sp ≡ top - 1 → stack-base < top → top ≤ stack-top → From (at-work (past pop at) v (with-work x (word mem sp)) top fp left mem s)
+  pub popped : (top : ℕ) → Stands img at pop → sp ≡ top - 1 → stack-base < top → top ≤ stack-top →
+      From (at-work (past pop at) v (with-work x (word mem sp)) top fp left mem s)
   popped top st e lo hi =
       let same : add16 sp 0 ≡ sp = omega arith in
       let up : add16 sp 1 ≡ top = omega arith in

@@ -1,5 +1,5 @@
--- The heart, for expressions: what the code of each expression does, given what calls do. Operations on two values, cells,
--- then the induction over the expression.
+-- The heart, for expressions: what the code of each expression does, given what calls do. The code of operations on two
+-- values; an expression's end, and an expression with what follows it; operations on two, cells; every expression.
 use mathlib.Core.Path.{_≡_, refl, sym, _∙_, ap, subst}
 use mathlib.Core.Bool.{Bool, true, false, _&&_, cond}
 use mathlib.Core.List.{List, _++_}
@@ -17,9 +17,9 @@ use Rattle.language.specs.Limits.{most-globals, most-cells}
 use Rattle.codegen.specs.Layout.{stack-top, stack-base, cells-base, globals-base, value}
 use Rattle.codegen.specs.Instructions.{Instruction, past, Stands}
 use Rattle.codegen.specs.Codegen.{constant, push, pop, go-to, add-code, sub-code, nand-code, less-code, load-local, load-global, load-cell, halve, end-of-two, end-of-expr, entry, code-expr}
-use Rattle.codegen.specs.Heart.{expr-ok, Scratch, at-work, Has-code, Holds, Value-in-place, Does}
+use Rattle.codegen.specs.Heart.{expr-ok, Scratch, at-work, Has-code, Holds, Changed-within, Value-in-place, Does}
 use Rattle.codegen.proofs.Rows.{both, stands-front, stands-past}
-use Rattle.codegen.proofs.Outcomes.{Reaches, by-row, along, along-more, arrived, has-ended, does-bind, weaken}
+use Rattle.codegen.proofs.Outcomes.{Good, Reaches, reaches-then, by-row, along, along-more, arrived, has-ended, does-bind, weaken}
 use Rattle.codegen.proofs.Blocks.{number-made, local-loaded, global-loaded, pushed, popped, jumped, halved, cell-loaded, cell-missing, with-work}
 use Rattle.codegen.proofs.Holding.{holds-pushed, changed-none, changed-one, changed-wider, changed-then}
 use Rattle.codegen.proofs.Behind.{behind-expr}
@@ -59,137 +59,126 @@ module _ (img : List ℕ) (g : Program) (few-globals : g .globals ≤ most-globa
       Holds img g locals s fp mem → stack-base + left + height e ≤ sp → sp ≤ fp → fp + locals ≤ stack-top →
       Does (suc n) (Value-in-place img g locals (end-of-expr e at) sp fp left (height e) mem) (eval call-proc e s) (at-work at v x sp fp left mem s)
 
+  -- some steps lead to the end of an expression with its value
+  in-place : (end sp fp taken : ℕ) (mem : List ℕ) (v w : ℕ) (t : State) (x : Scratch) (mem′ : List ℕ) {m : Machine} →
+      Reaches m (at-work end v x sp fp left mem′ t) → v ≡ w →
+      Holds img g locals t fp mem′ → Changed-within (sp - (left + taken)) sp mem mem′ → Does (suc n) (Value-in-place img g locals end sp fp left taken mem) (fine w t) m
+  in-place end sp fp taken mem v w t x mem′ r e h c =
+      let Q : Good = Value-in-place img g locals end sp fp left taken mem in
+      along (suc n) Q (fine w t) r (arrived (suc n) Q w t (at-work end v x sp fp left mem′ t) (record {
+        scratch = x;
+        memory = mem′;
+        is = ap (λ (k : ℕ). at-work end k x sp fp left mem′ t) e;
+        holds = h;
+        frames-kept = c;
+      }))
+
+  -- an expression, and then what follows it
+  pub operand : (e : Expr) → Runs e → (next : ℕ → State → Outcome) (Q : Good) (rest : List Instruction) (s : State) (at v : ℕ) (x : Scratch) (sp fp : ℕ) (mem : List ℕ) →
+      Stands img at (code-expr g e rest) → T (expr-ok g locals e) → Holds img g locals s fp mem →
+      stack-base + left + height e ≤ sp → sp ≤ fp → fp + locals ≤ stack-top →
+      ((u : ℕ) (t : State) (mem₁ : List ℕ) (y : Scratch) → Holds img g locals t fp mem₁ → Changed-within (sp - (left + height e)) sp mem mem₁ →
+      Does (suc n) Q (next u t) (at-work (end-of-expr e at) u y sp fp left mem₁ t)) →
+      Does (suc n) Q (bind (eval call-proc e s) next) (at-work at v x sp fp left mem s)
+  operand e run-e next Q rest s at v x sp fp mem st ok h low in-frame high follows =
+      does-bind (suc n) (Value-in-place img g locals (end-of-expr e at) sp fp left (height e) mem) Q (eval call-proc e s) next (at-work at v x sp fp left mem s)
+      (run-e rest s at v x sp fp mem st ok h low in-frame high)
+      (λ u t m A. subst (Does (suc n) Q (next u t)) (sym (A .is)) (follows u t (A .memory) (A .scratch) (A .holds) (A .frames-kept)))
+
+  -- an operation on two values: the first waits on the stack, where the working of the second leaves it alone
   two-run : (operation : List Instruction) (f : ℕ → ℕ → ℕ) → Operates operation f → (a b : Expr) → Runs a → Runs b →
       (rest : List Instruction) (s : State) (at v : ℕ) (x : Scratch) (sp fp : ℕ) (mem : List ℕ) →
-      Stands img at (code-expr g a (push ++ code-expr g b (pop ++ (operation ++ rest)))) →
-      T (expr-ok g locals a && expr-ok g locals b) →
+      Stands img at (code-expr g a (push ++ code-expr g b (pop ++ (operation ++ rest)))) → T (expr-ok g locals a && expr-ok g locals b) →
       Holds img g locals s fp mem → stack-base + left + both-height (height a) (height b) ≤ sp → sp ≤ fp → fp + locals ≤ stack-top →
       Does (suc n) (Value-in-place img g locals (end-of-two operation (end-of-expr b (past push (end-of-expr a at)))) sp fp left (both-height (height a) (height b)) mem)
       (bind (eval call-proc a s) (λ u t. bind (eval call-proc b t) (λ w r. fine (f u w) r))) (at-work at v x sp fp left mem s)
   two-run operation f operates a b run-a run-b rest s at v x sp fp mem st ok h low in-frame high =
       let end-a : ℕ = end-of-expr a at in
       let end-b : ℕ = end-of-expr b (past push end-a) in
-      let Q : ℕ → State → Machine → Type 0 = Value-in-place img g locals (end-of-two operation end-b) sp fp left (both-height (height a) (height b)) mem in
+      let taken : ℕ = both-height (height a) (height b) in
+      let Q : Good = Value-in-place img g locals (end-of-two operation end-b) sp fp left taken mem in
       let oks = both (expr-ok g locals a) (expr-ok g locals b) ok in
-      let second : List Instruction = code-expr g b (pop ++ (operation ++ rest)) in
-      let at-push = behind-expr img g a (push ++ second) at st in
-      let at-second = stands-past img push second end-a at-push in
-      let at-pop = behind-expr img g b (pop ++ (operation ++ rest)) (past push end-a) at-second in
+      let last : List Instruction = pop ++ (operation ++ rest) in
+      let second : List Instruction = push ++ code-expr g b last in
+      let at-push = behind-expr img g a second at st in
+      let at-second = stands-past img push (code-expr g b last) end-a at-push in
+      let at-pop = behind-expr img g b last (past push end-a) at-second in
       let at-operation = stands-past img pop (operation ++ rest) end-b at-pop in
-      does-bind (suc n) (Value-in-place img g locals end-a sp fp left (height a) mem) Q (eval call-proc a s) (λ u t. bind (eval call-proc b t) (λ w r. fine (f u w) r)) (at-work at v x sp fp left mem s)
-      (run-a (push ++ second) s at v x sp fp mem st (oks .0) h (omega arith) in-frame high)
-      (λ u t m A. subst (Does (suc n) Q (bind (eval call-proc b t) (λ w r. fine (f u w) r))) (sym (A .is))
-      (let mem₁ : List ℕ = put (A .memory) (sp - 1) u in
-      let h₁ = holds-pushed img g few-globals few-cells locals t fp (A .memory) (A .holds) (sp - 1) u (omega arith) (omega arith) in
-      along (suc n) Q (bind (eval call-proc b t) (λ w r. fine (f u w) r))
-      (pushed img end-a u (A .scratch) sp fp left (A .memory) t (A .holds .code-kept) (stands-front img push second end-a at-push) (omega arith) (omega arith))
-      (does-bind (suc n) (Value-in-place img g locals end-b (sp - 1) fp left (height b) mem₁) Q (eval call-proc b t) (λ w r. fine (f u w) r) (at-work (past push end-a) u (A .scratch) (sp - 1) fp left mem₁ t)
-      (run-b (pop ++ (operation ++ rest)) t (past push end-a) u (A .scratch) (sp - 1) fp mem₁ at-second (oks .1) h₁ (omega arith) (omega arith) high)
-      (λ w r m′ B. subst (Does (suc n) Q (fine (f u w) r)) (sym (B .is))
-      (let first : word (B .memory) (sp - 1) ≡ u = B .frames-kept .above (sp - 1) (omega arith) ∙ getD-set-same (A .memory) (sp - 1) u 0 (omega (arith, A .holds .size)) in
-      let y : Scratch = with-work (B .scratch) (word (B .memory) (sp - 1)) in
-      let o = operates img (past pop end-b) w y sp fp left (B .memory) r (B .holds .code-kept) (stands-front img operation rest (past pop end-b) at-operation) in
-      along (suc n) Q (fine (f u w) r)
-      (popped img end-b w (B .scratch) (sp - 1) fp left (B .memory) r (B .holds .code-kept) sp (stands-front img pop (operation ++ rest) end-b at-pop) refl (omega arith) (omega arith))
-      (along (suc n) Q (fine (f u w) r) (o .reached)
-      (arrived (suc n) Q (f u w) r (at-work (end-of-two operation end-b) (f (word (B .memory) (sp - 1)) w) (o .after) sp fp left (B .memory) r) (record {
-        scratch = o .after;
-        memory = B .memory;
-        is = ap (λ (k : ℕ). at-work (end-of-two operation end-b) (f k w) (o .after) sp fp left (B .memory) r) first;
-        holds = B .holds;
-        frames-kept = changed-then (changed-wider (A .frames-kept) (omega arith) (omega arith)) (changed-then (changed-one (A .memory) (sp - 1) u (omega arith) (omega arith)) (changed-wider (B .frames-kept) (omega arith) (omega arith)));
-      }))))))))
+      let on : ℕ → ℕ → State → Outcome = λ u w r. fine (f u w) r in
+      operand a run-a (λ u t. bind (eval call-proc b t) (on u)) Q second s at v x sp fp mem st (oks .0) h (omega arith) in-frame high (λ u t mem₁ y h₁ c₁.
+      let h₂ = holds-pushed img g few-globals few-cells locals t fp mem₁ h₁ (sp - 1) u (omega arith) (omega arith) in
+      let c₂ : Changed-within (sp - (left + taken)) sp mem₁ (put mem₁ (sp - 1) u) = changed-one mem₁ (sp - 1) u (omega arith) (omega arith) in
+      along (suc n) Q (bind (eval call-proc b t) (on u))
+      (pushed img end-a u y sp fp left mem₁ t (h₁ .code-kept) (stands-front img push (code-expr g b last) end-a at-push) (omega arith) (omega arith))
+      (operand b run-b (on u) Q last t (past push end-a) u y (sp - 1) fp (put mem₁ (sp - 1) u) at-second (oks .1) h₂ (omega arith) (omega arith) high (λ w r mem₃ z h₃ c₃.
+      let first : word mem₃ (sp - 1) ≡ u = c₃ .above (sp - 1) (omega arith) ∙ getD-set-same mem₁ (sp - 1) u 0 (omega (arith, h₁ .size)) in
+      let popping = popped img end-b w z (sp - 1) fp left mem₃ r (h₃ .code-kept) sp (stands-front img pop (operation ++ rest) end-b at-pop) refl (omega arith) (omega arith) in
+      let o = operates img (past pop end-b) w (with-work z (word mem₃ (sp - 1))) sp fp left mem₃ r (h₃ .code-kept) (stands-front img operation rest (past pop end-b) at-operation) in
+      in-place (end-of-two operation end-b) sp fp taken mem (f (word mem₃ (sp - 1)) w) (f u w) r (o .after) mem₃ (reaches-then popping (o .reached)) (ap (λ (k : ℕ). f k w) first) h₃
+      (changed-then (changed-wider c₁ (omega arith) (omega arith)) (changed-then c₂ (changed-wider c₃ (omega arith) (omega arith)))))))
 
   -- a cell whose number is worked out: it is there, or the run ends
-  cell-run : (e : Expr) (rest : List Instruction) (at sp fp : ℕ) (mem : List ℕ) (i : ℕ) (s : State) (m : Machine) → Stands img (end-of-expr e at) (load-cell (g .cells) ++ rest) →
-      Value-in-place img g locals (end-of-expr e at) sp fp left (height e) mem i s m → (there : Bool) → ltb i (g .cells) ≡ there →
-      Does (suc n) (Value-in-place img g locals (end-of-expr (cell e) at) sp fp left (height e) mem) (cond there (fine (word (s .cells) i) s) (ends ended-index s)) m
-  cell-run e rest at sp fp mem i s m st A true is =
-      let Q : ℕ → State → Machine → Type 0 = Value-in-place img g locals (end-of-expr (cell e) at) sp fp left (height e) mem in
-      let held = A .holds .cells-held i (ltb-true i (g .cells) is) in
-      let y : Scratch = record { in-work = cells-base + i; in-back = 0; in-spare = A .scratch .in-spare } in
-      subst (Does (suc n) Q (fine (word (s .cells) i) s)) (sym (A .is))
-      (along (suc n) Q (fine (word (s .cells) i) s)
-      (cell-loaded img (end-of-expr e at) i (A .scratch) sp fp left (A .memory) s (A .holds .code-kept) (g .cells) (stands-front img (load-cell (g .cells)) rest (end-of-expr e at) st) few-cells is)
-      (arrived (suc n) Q (word (s .cells) i) s (at-work (end-of-expr (cell e) at) (word (A .memory) (cells-base + i)) y sp fp left (A .memory) s) (record {
-        scratch = y;
-        memory = A .memory;
-        is = ap (λ (k : ℕ). at-work (end-of-expr (cell e) at) k y sp fp left (A .memory) s) held;
-        holds = A .holds;
-        frames-kept = A .frames-kept;
-      })))
-  cell-run e rest at sp fp mem i s m st A false is =
-      let Q : ℕ → State → Machine → Type 0 = Value-in-place img g locals (end-of-expr (cell e) at) sp fp left (height e) mem in
-      subst (Does (suc n) Q (ends ended-index s)) (sym (A .is))
-      (along (suc n) Q (ends ended-index s)
-      (cell-missing img (end-of-expr e at) i (A .scratch) sp fp left (A .memory) s (A .holds .code-kept) (g .cells) (stands-front img (load-cell (g .cells)) rest (end-of-expr e at) st) is)
-      (has-ended (suc n) Q ended-index s _ refl (lit< tt)))
+  cell-run : (rest : List Instruction) (at sp fp taken : ℕ) (mem mem₁ : List ℕ) (i : ℕ) (s : State) (x : Scratch) → Stands img at (load-cell (g .cells) ++ rest) →
+      Holds img g locals s fp mem₁ → Changed-within (sp - (left + taken)) sp mem mem₁ → (there : Bool) → ltb i (g .cells) ≡ there →
+      Does (suc n) (Value-in-place img g locals (past (load-cell (g .cells)) at) sp fp left taken mem) (cond there (fine (word (s .cells) i) s) (ends ended-index s))
+      (at-work at i x sp fp left mem₁ s)
+  cell-run rest at sp fp taken mem mem₁ i s x st h c true is =
+      let block = stands-front img (load-cell (g .cells)) rest at st in
+      let y : Scratch = record { in-work = cells-base + i; in-back = 0; in-spare = x .in-spare } in
+      in-place (past (load-cell (g .cells)) at) sp fp taken mem (word mem₁ (cells-base + i)) (word (s .cells) i) s y mem₁
+      (cell-loaded img at i x sp fp left mem₁ s (h .code-kept) (g .cells) block few-cells is) (h .cells-held i (ltb-true i (g .cells) is)) h c
+  cell-run rest at sp fp taken mem mem₁ i s x st h c false is =
+      let block = stands-front img (load-cell (g .cells)) rest at st in
+      let Q : Good = Value-in-place img g locals (past (load-cell (g .cells)) at) sp fp left taken mem in
+      along (suc n) Q (ends ended-index s) (cell-missing img at i x sp fp left mem₁ s (h .code-kept) (g .cells) block is) (has-ended (suc n) Q ended-index s _ refl (lit< tt))
 
   -- every expression
   pub expr-runs : (e : Expr) → Runs e
   expr-runs (num k) rest s at v x sp fp mem st ok h low in-frame high =
-      let Q : ℕ → State → Machine → Type 0 = Value-in-place img g locals (end-of-expr (num k) at) sp fp left 1 mem in
-      along (suc n) Q (fine k s) (number-made img at v x sp fp left mem s (h .code-kept) k (stands-front img (constant value k) rest at st))
-      (arrived (suc n) Q k s (at-work (end-of-expr (num k) at) k x sp fp left mem s) (record { scratch = x; memory = mem; is = refl; holds = h; frames-kept = changed-none }))
+      in-place (end-of-expr (num k) at) sp fp 1 mem k k s x mem (number-made img at v x sp fp left mem s (h .code-kept) k (stands-front img (constant value k) rest at st)) refl h changed-none
   expr-runs (loc i) rest s at v x sp fp mem st ok h low in-frame high =
-      let Q : ℕ → State → Machine → Type 0 = Value-in-place img g locals (end-of-expr (loc i) at) sp fp left 1 mem in
       let there : i < locals = ltb→lt i locals ok in
-      let y : Scratch = with-work x (fp + i) in
-      along (suc n) Q (fine (word (s .locals) i) s) (local-loaded img at v x sp fp left mem s (h .code-kept) i (stands-front img (load-local i) rest at st) (omega arith))
-      (arrived (suc n) Q (word (s .locals) i) s (at-work (end-of-expr (loc i) at) (word mem (fp + i)) y sp fp left mem s) (record {
-        scratch = y;
-        memory = mem;
-        is = ap (λ (k : ℕ). at-work (end-of-expr (loc i) at) k y sp fp left mem s) (h .locals-held i there);
-        holds = h;
-        frames-kept = changed-none;
-      }))
+      let loaded = local-loaded img at v x sp fp left mem s (h .code-kept) i (stands-front img (load-local i) rest at st) (omega arith) in
+      in-place (end-of-expr (loc i) at) sp fp 1 mem (word mem (fp + i)) (word (s .locals) i) s (with-work x (fp + i)) mem loaded (h .locals-held i there) h changed-none
   expr-runs (glob i) rest s at v x sp fp mem st ok h low in-frame high =
-      let Q : ℕ → State → Machine → Type 0 = Value-in-place img g locals (end-of-expr (glob i) at) sp fp left 1 mem in
       let there : i < g .globals = ltb→lt i (g .globals) ok in
-      let y : Scratch = with-work x (globals-base + i) in
-      along (suc n) Q (fine (word (s .globals) i) s) (global-loaded img at v x sp fp left mem s (h .code-kept) i (stands-front img (load-global i) rest at st) (omega arith))
-      (arrived (suc n) Q (word (s .globals) i) s (at-work (end-of-expr (glob i) at) (word mem (globals-base + i)) y sp fp left mem s) (record {
-        scratch = y;
-        memory = mem;
-        is = ap (λ (k : ℕ). at-work (end-of-expr (glob i) at) k y sp fp left mem s) (h .globals-held i there);
-        holds = h;
-        frames-kept = changed-none;
-      }))
+      let loaded = global-loaded img at v x sp fp left mem s (h .code-kept) i (stands-front img (load-global i) rest at st) (omega arith) in
+      in-place (end-of-expr (glob i) at) sp fp 1 mem (word mem (globals-base + i)) (word (s .globals) i) s (with-work x (globals-base + i)) mem loaded (h .globals-held i there) h changed-none
   expr-runs (cell e) rest s at v x sp fp mem st ok h low in-frame high =
-      let Q : ℕ → State → Machine → Type 0 = Value-in-place img g locals (end-of-expr (cell e) at) sp fp left (height e) mem in
-      does-bind (suc n) (Value-in-place img g locals (end-of-expr e at) sp fp left (height e) mem) Q (eval call-proc e s) (λ i t. if-cell i t (fine (word (t .cells) i) t)) (at-work at v x sp fp left mem s)
-      (expr-runs e (load-cell (g .cells) ++ rest) s at v x sp fp mem st ok h low in-frame high)
-      (λ i t m A. subst (λ (k : ℕ). Does (suc n) Q (cond (ltb i k) (fine (word (t .cells) i) t) (ends ended-index t)) m) (sym (A .holds .cells-count))
-      (cell-run e rest at sp fp mem i t m (behind-expr img g e (load-cell (g .cells) ++ rest) at st) A (ltb i (g .cells)) refl))
-  expr-runs (add a b) rest s at v x sp fp mem st ok h low in-frame high = two-run add-code add16 adds a b (expr-runs a) (expr-runs b) rest s at v x sp fp mem st ok h low in-frame high
-  expr-runs (sub a b) rest s at v x sp fp mem st ok h low in-frame high = two-run sub-code sub16 subtracts a b (expr-runs a) (expr-runs b) rest s at v x sp fp mem st ok h low in-frame high
-  expr-runs (nand a b) rest s at v x sp fp mem st ok h low in-frame high = two-run nand-code nand16 nands a b (expr-runs a) (expr-runs b) rest s at v x sp fp mem st ok h low in-frame high
-  expr-runs (less a b) rest s at v x sp fp mem st ok h low in-frame high = two-run less-code less16 compares a b (expr-runs a) (expr-runs b) rest s at v x sp fp mem st ok h low in-frame high
+      let Q : Good = Value-in-place img g locals (end-of-expr (cell e) at) sp fp left (height e) mem in
+      let behind : List Instruction = load-cell (g .cells) ++ rest in
+      operand e (expr-runs e) (λ i t. if-cell i t (fine (word (t .cells) i) t)) Q behind s at v x sp fp mem st ok h low in-frame high (λ i t mem₁ y h₁ c.
+      subst (λ (k : ℕ). Does (suc n) Q (cond (ltb i k) (fine (word (t .cells) i) t) (ends ended-index t)) (at-work (end-of-expr e at) i y sp fp left mem₁ t)) (sym (h₁ .cells-count))
+      (cell-run rest (end-of-expr e at) sp fp (height e) mem mem₁ i t y (behind-expr img g e behind at st) h₁ c (ltb i (g .cells)) refl))
+  expr-runs (add a b) rest s at v x sp fp mem st ok h low in-frame high =
+      two-run add-code add16 adds a b (expr-runs a) (expr-runs b) rest s at v x sp fp mem st ok h low in-frame high
+  expr-runs (sub a b) rest s at v x sp fp mem st ok h low in-frame high =
+      two-run sub-code sub16 subtracts a b (expr-runs a) (expr-runs b) rest s at v x sp fp mem st ok h low in-frame high
+  expr-runs (nand a b) rest s at v x sp fp mem st ok h low in-frame high =
+      two-run nand-code nand16 nands a b (expr-runs a) (expr-runs b) rest s at v x sp fp mem st ok h low in-frame high
+  expr-runs (less a b) rest s at v x sp fp mem st ok h low in-frame high =
+      two-run less-code less16 compares a b (expr-runs a) (expr-runs b) rest s at v x sp fp mem st ok h low in-frame high
   expr-runs (half a) rest s at v x sp fp mem st ok h low in-frame high =
-      let Q : ℕ → State → Machine → Type 0 = Value-in-place img g locals (end-of-expr (half a) at) sp fp left (height a) mem in
-      does-bind (suc n) (Value-in-place img g locals (end-of-expr a at) sp fp left (height a) mem) Q (eval call-proc a s) (λ u t. fine (half16 u) t) (at-work at v x sp fp left mem s)
-      (expr-runs a (halve ++ rest) s at v x sp fp mem st ok h low in-frame high)
-      (λ u t m A. subst (Does (suc n) Q (fine (half16 u) t)) (sym (A .is))
-      (along (suc n) Q (fine (half16 u) t)
-      (halved img (end-of-expr a at) u (A .scratch) sp fp left (A .memory) t (A .holds .code-kept) (stands-front img halve rest (end-of-expr a at) (behind-expr img g a (halve ++ rest) at st)))
-      (arrived (suc n) Q (half16 u) t (at-work (end-of-expr (half a) at) (half16 u) (A .scratch) sp fp left (A .memory) t)
-      (record { scratch = A .scratch; memory = A .memory; is = refl; holds = A .holds; frames-kept = A .frames-kept }))))
+      let Q : Good = Value-in-place img g locals (end-of-expr (half a) at) sp fp left (height a) mem in
+      let block = stands-front img halve rest (end-of-expr a at) (behind-expr img g a (halve ++ rest) at st) in
+      operand a (expr-runs a) (λ u t. fine (half16 u) t) Q (halve ++ rest) s at v x sp fp mem st ok h low in-frame high (λ u t mem₁ y h₁ c.
+      in-place (end-of-expr (half a) at) sp fp (height a) mem (half16 u) (half16 u) t y mem₁ (halved img (end-of-expr a at) u y sp fp left mem₁ t (h₁ .code-kept) block) refl h₁ c)
   expr-runs (call f a) rest s at v x sp fp mem st ok h low in-frame high =
-      let Q : ℕ → State → Machine → Type 0 = Value-in-place img g locals (end-of-expr (call f a) at) sp fp left (height a) mem in
+      let end : ℕ = end-of-expr (call f a) at in
+      let Q : Good = Value-in-place img g locals end sp fp left (height a) mem in
       let oks = both (ltb f (length (g .procs))) (expr-ok g locals a) ok in
+      let there : f < length (g .procs) = ltb→lt f (length (g .procs)) (oks .0) in
       let way : List Instruction = go-to (entry g f) in
-      does-bind (suc n) (Value-in-place img g locals (end-of-expr a at) sp fp left (height a) mem) Q (eval call-proc a s) (λ u t. call-proc f u t) (at-work at v x sp fp left mem s)
-      (expr-runs a (way ++ rest) s at v x sp fp mem st (oks .1) h low in-frame high)
-      (λ u t m A. subst (Does (suc n) Q (call-proc f u t)) (sym (A .is))
-      (let y : Scratch = record { in-work = entry g f; in-back = end-of-expr (call f a) at; in-spare = A .scratch .in-spare } in
-      along-more n Q (call-proc f u t)
-      (jumped img (end-of-expr a at) u (A .scratch) sp fp left (A .memory) t (A .holds .code-kept) (entry g f) (stands-front img way rest (end-of-expr a at) (behind-expr img g a (way ++ rest) at st)))
-      (weaken n (Value-in-place img g locals (end-of-expr (call f a) at) sp fp left 0 (A .memory)) Q (call-proc f u t) (at-work (entry g f) u y sp fp left (A .memory) t)
-      (calls locals f u t y sp fp (A .memory) (ltb→lt f (length (g .procs)) (oks .0)) (A .holds) (omega arith) in-frame high)
-      (λ w r m′ B. record {
+      let block = stands-front img way rest (end-of-expr a at) (behind-expr img g a (way ++ rest) at st) in
+      operand a (expr-runs a) (λ u t. call-proc f u t) Q (way ++ rest) s at v x sp fp mem st (oks .1) h low in-frame high (λ u t mem₁ y h₁ c.
+      let z : Scratch = record { in-work = entry g f; in-back = end; in-spare = y .in-spare } in
+      along-more n Q (call-proc f u t) (jumped img (end-of-expr a at) u y sp fp left mem₁ t (h₁ .code-kept) (entry g f) block)
+      (weaken n (Value-in-place img g locals end sp fp left 0 mem₁) Q (call-proc f u t) (at-work (entry g f) u z sp fp left mem₁ t)
+      (calls locals f u t z sp fp mem₁ there h₁ (omega arith) in-frame high)
+      (λ w r m B. record {
         scratch = B .scratch;
         memory = B .memory;
         is = B .is;
         holds = B .holds;
-        frames-kept = changed-then (A .frames-kept) (changed-wider (B .frames-kept) (omega arith) (omega arith));
-      }))))
+        frames-kept = changed-then c (changed-wider (B .frames-kept) (omega arith) (omega arith));
+      })))

@@ -42,9 +42,11 @@ clears img zero i at v b q sp fp left mem s r st code lo hi = rw (cleared-none m
 clears img (suc n) i at v b q sp fp left mem s r st code lo hi =
     let sum : add16 b i ≡ b + i = omega arith in
     let next : b + suc i ≡ suc (b + i) = omega arith in
-    let one : Reaches (at-work at v (record { in-work = b; in-back = q; in-spare = 0 }) sp fp left mem s) (at-work (suc at) v (record { in-work = b; in-back = q; in-spare = 0 }) sp fp left (put mem (b + i) 0) s)
+    let x : Scratch = record { in-work = b; in-back = q; in-spare = 0 } in
+    let one : Reaches (at-work at v x sp fp left mem s) (at-work (suc at) v x sp fp left (put mem (b + i) 0) s)
     = by-row img (STORE spare work i ∷ []) code refl tt (st .0, st .1, st .2, tt) (omega arith) (rw sum refl) in
-    let more = clears img n (suc i) (suc at) v b q sp fp left (put mem (b + i) 0) s (reaches-then r one) (st .3) (λ j k. getD-set-other mem (b + i) j 0 0 (omega arith) ∙ code j k) lo (omega arith) in
+    let code₁ : Has-code img (put mem (b + i) 0) = λ j k. getD-set-other mem (b + i) j 0 0 (omega arith) ∙ code j k in
+    let more = clears img n (suc i) (suc at) v b q sp fp left (put mem (b + i) 0) s (reaches-then r one) (st .3) code₁ lo (omega arith) in
     rw (cleared-more mem (b + i) n, ← next) more
 
 -- The place of a procedure's frame below the caller's words: the argument and further locals, the caller's frame pointer,
@@ -72,21 +74,31 @@ module _ (p : Proc) (v q sp fp : ℕ) (mem : List ℕ) where
   abbrev pub with-argument : List ℕ
   with-argument = put with-caller (frame-place p sp) v
 
-  pub framed : length mem ≡ memory-size → stack-base + frame-size p ≤ sp → sp ≤ stack-top → Framed p v q sp fp mem (cleared with-argument (suc (frame-place p sp) + 0) (p .locals))
+  -- a word that is none of the three that are stored
+  kept : (j : ℕ) → (j ≡ sp - 1 → ⊥) → (j ≡ sp - 2 → ⊥) → (j ≡ frame-place p sp → ⊥) → word with-argument j ≡ word mem j
+  kept j no-return no-caller no-argument =
+      getD-set-other with-caller (frame-place p sp) j v 0 no-argument ∙ getD-set-other with-return (sp - 2) j fp 0 no-caller ∙ getD-set-other mem (sp - 1) j q 0 no-return
+
+  pub framed : length mem ≡ memory-size → stack-base + frame-size p ≤ sp → sp ≤ stack-top →
+      Framed p v q sp fp mem (cleared with-argument (suc (frame-place p sp) + 0) (p .locals))
   framed fits lo hi =
       let b : ℕ = frame-place p sp in
       let k : ℕ = p .locals in
-      let l₁ = length-set mem (sp - 1) q in
-      let l₂ = length-set with-return (sp - 2) fp in
-      let l₃ = length-set with-caller b v in
+      let from : ℕ = suc b + 0 in
+      let size₁ = length-set mem (sp - 1) q in
+      let size₂ = length-set with-return (sp - 2) fp in
+      let size₃ = length-set with-caller b v in
+      let return-stored : word with-argument (sp - 1) ≡ q =
+      getD-set-other with-caller b (sp - 1) v 0 (omega arith) ∙ getD-set-other with-return (sp - 2) (sp - 1) fp 0 (omega arith) ∙ getD-set-same mem (sp - 1) q 0 (omega arith) in
+      let caller-stored : word with-argument (sp - 2) ≡ fp = getD-set-other with-caller b (sp - 2) v 0 (omega arith) ∙ getD-set-same with-return (sp - 2) fp 0 (omega arith) in
       record {
-        size = length-cleared with-argument (suc b + 0) k ∙ l₃ ∙ l₂ ∙ l₁;
-        below = λ j h. cleared-below with-argument (suc b + 0) k j (omega arith) ∙ getD-set-other with-caller b j v 0 (omega arith) ∙ getD-set-other with-return (sp - 2) j fp 0 (omega arith) ∙ getD-set-other mem (sp - 1) j q 0 (omega arith);
-        above = λ j h. cleared-above with-argument (suc b + 0) k j (omega arith) ∙ getD-set-other with-caller b j v 0 (omega arith) ∙ getD-set-other with-return (sp - 2) j fp 0 (omega arith) ∙ getD-set-other mem (sp - 1) j q 0 (omega arith);
-        return-place = cleared-above with-argument (suc b + 0) k (sp - 1) (omega arith) ∙ getD-set-other with-caller b (sp - 1) v 0 (omega arith) ∙ getD-set-other with-return (sp - 2) (sp - 1) fp 0 (omega arith) ∙ getD-set-same mem (sp - 1) q 0 (omega arith);
-        caller-frame = cleared-above with-argument (suc b + 0) k (sp - 2) (omega arith) ∙ getD-set-other with-caller b (sp - 2) v 0 (omega arith) ∙ getD-set-same with-return (sp - 2) fp 0 (omega arith);
-        argument = cleared-below with-argument (suc b + 0) k b (omega arith) ∙ getD-set-same with-caller b v 0 (omega arith);
-        zeros = λ i h. (let e : suc b + i ≡ (suc b + 0) + i = omega arith in ap (word (cleared with-argument (suc b + 0) k)) e ∙ cleared-is with-argument (suc b + 0) k i h (omega arith));
+        size = length-cleared with-argument from k ∙ size₃ ∙ size₂ ∙ size₁;
+        below = λ j h. cleared-below with-argument from k j (omega arith) ∙ kept j (omega arith) (omega arith) (omega arith);
+        above = λ j h. cleared-above with-argument from k j (omega arith) ∙ kept j (omega arith) (omega arith) (omega arith);
+        return-place = cleared-above with-argument from k (sp - 1) (omega arith) ∙ return-stored;
+        caller-frame = cleared-above with-argument from k (sp - 2) (omega arith) ∙ caller-stored;
+        argument = cleared-below with-argument from k b (omega arith) ∙ getD-set-same with-caller b v 0 (omega arith);
+        zeros = λ i h. (let e : suc b + i ≡ from + i = omega arith in ap (word (cleared with-argument from k)) e ∙ cleared-is with-argument from k i h (omega arith));
       }
 
 -- Memory with the frame holds the state that the body begins with.

@@ -55,7 +55,8 @@ all-words [] k h = zeros-are-words k
 all-words (i ∷ is) k h = (encode-below i (h .0), all-words is k (h .1))
 
 -- instructions stand where their words do
-stands-where : (mem : List ℕ) (is : List Instruction) (at : ℕ) → All-within is → at + length is ≤ code-limit → ((j : ℕ) → j < length is → word mem (at + j) ≡ word (map encode is) j) → Stands mem at is
+stands-where : (mem : List ℕ) (is : List Instruction) (at : ℕ) → All-within is → at + length is ≤ code-limit →
+    ((j : ℕ) → j < length is → word mem (at + j) ≡ word (map encode is) j) → Stands mem at is
 stands-where mem [] at h b same = tt
 stands-where mem (i ∷ is) at h b same =
     let here : at + 0 ≡ at = omega arith in (
@@ -95,7 +96,8 @@ module _ (g : Program) (within : Within-limits g) where
       Does n (Value-in-place (image g) g 0 (done-place (image g) g within code-stands) stack-top stack-top frame-room 0 (image g)) o (begin (image g) tape) → Tracked tape n o
   tracked tape n (fine v t) d =
       let A = d .good in
-      let done = row (image g) (DONE ∷ []) (at-work (done-place (image g) g within code-stands) v (A .scratch) stack-top stack-top frame-room (A .memory) t) (A .holds .code-kept) refl tt (done-stands (image g) g within code-stands) (omega arith) in
+      let at-done : Machine = at-work (done-place (image g) g within code-stands) v (A .scratch) stack-top stack-top frame-room (A .memory) t in
+      let done = row (image g) (DONE ∷ []) at-done (A .holds .code-kept) refl tt (done-stands (image g) g within code-stands) (omega arith) in
       record {
         count = d .count + 1;
         same = ap seen-machine (steps-add (d .count) 1 (begin (image g) tape) ∙ ap (steps 1) (A .is) ∙ done .arrives);
@@ -122,7 +124,8 @@ module _ (g : Program) (within : Within-limits g) where
           past-end h zero z = let l = t .late z in omega arith
           past-end h (suc e) z =
               let ended = ap (λ (s : Seen). s .ending) (t .same) in
-              let stays = ap (λ (m : Machine). m .halted) (steps-from (t .count) k (begin (image g) tape) (omega arith) ∙ steps-halted (k - t .count) (steps (t .count) (begin (image g) tape)) (omega arith)) in
+              let same = steps-from (t .count) k (begin (image g) tape) (omega arith) ∙ steps-halted (k - t .count) (steps (t .count) (begin (image g) tape)) (omega arith) in
+              let stays = ap (λ (m : Machine). m .halted) same in
               omega arith
 
   right : Right-image g

@@ -54,7 +54,8 @@ proc-there [] f h e = omega arith
 proc-there (p ∷ ps) zero h e = let z : _≡_ {A = ℕ} 0 1 = cc in omega arith
 proc-there (p ∷ ps) (suc f) h e = proc-there ps f (omega arith) e
 
-pub body-fits-at : (globals count : ℕ) (ps : List Proc) → T (fits-procs globals count ps) → (f : ℕ) (p : Proc) → proc-at ps f ≡ some p → T (fits-stmt (1 + p .locals) globals count (p .body))
+pub body-fits-at : (globals count : ℕ) (ps : List Proc) → T (fits-procs globals count ps) → (f : ℕ) (p : Proc) → proc-at ps f ≡ some p →
+    T (fits-stmt (1 + p .locals) globals count (p .body))
 body-fits-at globals count [] t f p e = let z : _≡_ {A = ℕ} 0 1 = cc in absurd (omega arith)
 body-fits-at globals count (d ∷ ps) t zero p e = let same : d ≡ p = cc in subst (λ (x : Proc). T (fits-stmt (1 + x .locals) globals count (x .body))) same (first-fits globals count d ps t .body-fits)
 body-fits-at globals count (d ∷ ps) t (suc f) p e = body-fits-at globals count ps (first-fits globals count d ps t .others-fit) f p e

@@ -16,6 +16,10 @@ use Rattle.codegen.specs.Top.{Leaves-top-for}
 use Rattle.codegen.specs.Heart.{Has-code, Comes-to, Does}
 use Rattle.codegen.proofs.Rows.{both, no-steps, more-steps, is-row, effects, All-allowed, row}
 
+-- what is to hold of the value, the state and the machine at the end of a part
+abbrev pub Good : Type 1
+Good = ℕ → State → Machine → Type 0
+
 -- some steps, at least one, which leave memory's top alone, lead from one machine to the other
 pub record Reaches (m m′ : Machine) : Type 0 where
   pub count : ℕ
@@ -47,23 +51,23 @@ comes-after P Q {m} {m′} r pq c = record {
   good = subst (Q (r .count + c .count)) (ap (steps (c .count)) (sym (r .arrives)) ∙ sym (steps-add (r .count) (c .count) m)) (pq (c .count) (steps (c .count) m′) (c .good));
 }
 
-does-after : (n n′ : ℕ) (Q : ℕ → State → Machine → Type 0) (o : Outcome) {m m′ : Machine} (r : Reaches m m′) → n′ ≤ r .count + n → Does n Q o m′ → Does n′ Q o m
+does-after : (n n′ : ℕ) (Q : Good) (o : Outcome) {m m′ : Machine} (r : Reaches m m′) → n′ ≤ r .count + n → Does n Q o m′ → Does n′ Q o m
 does-after n n′ Q (fine v t) r h d = comes-after (λ k x. Q v t x) (λ k x. Q v t x) r (λ k x p. p) d
 does-after n n′ Q (ends how t) r h d = comes-after (λ k x. (seen-machine x ≡ seen-outcome (ends how t)) × (0 < how)) (λ k x. (seen-machine x ≡ seen-outcome (ends how t)) × (0 < how)) r (λ k x p. p) d
 does-after n n′ Q (spent t) r h d = comes-after (λ k x. (seen-machine x ≡ seen-outcome (spent t)) × (n ≤ k)) (λ k x. (seen-machine x ≡ seen-outcome (spent t)) × (n′ ≤ k)) r (λ k x p. (p .0, omega arith)) d
 
-pub along : (n : ℕ) (Q : ℕ → State → Machine → Type 0) (o : Outcome) {m m′ : Machine} → Reaches m m′ → Does n Q o m′ → Does n Q o m
+pub along : (n : ℕ) (Q : Good) (o : Outcome) {m m′ : Machine} → Reaches m m′ → Does n Q o m′ → Does n Q o m
 along n Q o r d = does-after n n Q o r (omega arith) d
 
 -- at least one step is taken, so one more fuel may be spent
-pub along-more : (n : ℕ) (Q : ℕ → State → Machine → Type 0) (o : Outcome) {m m′ : Machine} → Reaches m m′ → Does n Q o m′ → Does (suc n) Q o m
+pub along-more : (n : ℕ) (Q : Good) (o : Outcome) {m m′ : Machine} → Reaches m m′ → Does n Q o m′ → Does (suc n) Q o m
 along-more n Q o r d = let s = r .some in does-after n (suc n) Q o r (omega arith) d
 
 -- the machine is there
-pub arrived : (n : ℕ) (Q : ℕ → State → Machine → Type 0) (v : ℕ) (t : State) (m : Machine) → Q v t m → Does n Q (fine v t) m
+pub arrived : (n : ℕ) (Q : Good) (v : ℕ) (t : State) (m : Machine) → Q v t m → Does n Q (fine v t) m
 arrived n Q v t m q = record { count = 0; top = no-steps m; good = q }
 
-pub has-ended : (n : ℕ) (Q : ℕ → State → Machine → Type 0) (how : ℕ) (t : State) (m : Machine) → seen-machine m ≡ seen-outcome (ends how t) → 0 < how → Does n Q (ends how t) m
+pub has-ended : (n : ℕ) (Q : Good) (how : ℕ) (t : State) (m : Machine) → seen-machine m ≡ seen-outcome (ends how t) → 0 < how → Does n Q (ends how t) m
 has-ended n Q how t m e h = record { count = 0; top = no-steps m; good = (e, h) }
 
 -- with no fuel no step is asked for
@@ -71,7 +75,7 @@ pub is-spent : (t : State) (m : Machine) → seen-machine m ≡ seen-outcome (sp
 is-spent t m e = record { count = 0; top = no-steps m; good = (e, omega arith) }
 
 -- a part of a run and then another
-pub does-bind : (n : ℕ) (P Q : ℕ → State → Machine → Type 0) (o : Outcome) (next : ℕ → State → Outcome) (m : Machine) →
+pub does-bind : (n : ℕ) (P Q : Good) (o : Outcome) (next : ℕ → State → Outcome) (m : Machine) →
     Does n P o m → ((v : ℕ) (t : State) (m′ : Machine) → P v t m′ → Does n Q (next v t) m′) → Does n Q (bind o next) m
 does-bind n P Q (fine v t) next m d go = first (d .count) refl
   where
@@ -82,7 +86,7 @@ does-bind n P Q (ends how t) next m d go = d
 does-bind n P Q (spent t) next m d go = d
 
 -- less is asked for
-pub weaken : (n : ℕ) (P Q : ℕ → State → Machine → Type 0) (o : Outcome) (m : Machine) → Does n P o m → ((v : ℕ) (t : State) (m′ : Machine) → P v t m′ → Q v t m′) → Does n Q o m
+pub weaken : (n : ℕ) (P Q : Good) (o : Outcome) (m : Machine) → Does n P o m → ((v : ℕ) (t : State) (m′ : Machine) → P v t m′ → Q v t m′) → Does n Q o m
 weaken n P Q (fine v t) m d f = record { count = d .count; top = d .top; good = f v t (steps (d .count) m) (d .good) }
 weaken n P Q (ends how t) m d f = d
 weaken n P Q (spent t) m d f = d

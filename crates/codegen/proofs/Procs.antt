@@ -20,7 +20,7 @@ use Rattle.codegen.specs.Instructions.{Instruction, past, Stands}
 use Rattle.codegen.specs.Codegen.{check-room, make-frame, clear-words, leave-frame, body-place, end-of-stmt, end-of-proc, code-stmt, code-proc}
 use Rattle.codegen.specs.Heart.{stmt-ok, Scratch, at-work, Has-code, Holds, Value-in-place, Statement-done, Does}
 use Rattle.codegen.proofs.Rows.{stands-front, stands-past}
-use Rattle.codegen.proofs.Outcomes.{Reaches, reaches-then, by-row, along, along-more, arrived, has-ended, does-bind}
+use Rattle.codegen.proofs.Outcomes.{Good, Reaches, reaches-then, by-row, along, along-more, arrived, has-ended, does-bind}
 use Rattle.codegen.proofs.Blocks.{from-bytes}
 use Rattle.codegen.proofs.Behind.{behind-stmt}
 use Rattle.codegen.proofs.Branches.{Runs-stmt}
@@ -96,7 +96,7 @@ module _ (img : List ℕ) (g : Program) (few-globals : g .globals ≤ most-globa
       Statement-done img g (1 + p .locals) (end-of-stmt (p .body) (body-place p at)) base inside (stmt-height (p .body)) mem₁ k t m →
       Does n (Value-in-place img g locals (x .in-back) sp fp left 0 mem) (fine (word (t .locals) 0) (with-locals t (s .locals))) m
   leaves le mem₁ f k t m B =
-      let Q : ℕ → State → Machine → Type 0 = Value-in-place img g locals (x .in-back) sp fp left 0 mem in
+      let Q : Good = Value-in-place img g locals (x .in-back) sp fp left 0 mem in
       let result : ℕ = word (t .locals) 0 in
       let after : State = with-locals t (s .locals) in
       let end : ℕ = end-of-stmt (p .body) (body-place p at) in
@@ -134,14 +134,15 @@ module _ (img : List ℕ) (g : Program) (few-globals : g .globals ≤ most-globa
       })))
 
   -- the call, with and without room
-  pub call-runs : Runs-stmt img g (1 + p .locals) n inside (run-body (p .body)) (p .body) → T (stmt-ok g (1 + p .locals) (p .body)) → (full : Bool) → ltb left (frame-size p) ≡ full →
+  pub call-runs : Runs-stmt img g (1 + p .locals) n inside (run-body (p .body)) (p .body) → T (stmt-ok g (1 + p .locals) (p .body)) → (full : Bool) →
+      ltb left (frame-size p) ≡ full →
       Does (suc n) (Value-in-place img g locals (x .in-back) sp fp left 0 mem)
       (cond full (ends ended-full s) (bind (run-body (p .body) own) (λ k t. fine (word (t .locals) 0) (with-locals t (s .locals))))) (at-work at v x sp fp left mem s)
   call-runs body ok true e =
-      let Q : ℕ → State → Machine → Type 0 = Value-in-place img g locals (x .in-back) sp fp left 0 mem in
+      let Q : Good = Value-in-place img g locals (x .in-back) sp fp left 0 mem in
       along (suc n) Q (ends ended-full s) (no-room img p at v x sp fp left mem s (h .code-kept) (stands .test) e) (has-ended (suc n) Q ended-full s _ refl (lit< tt))
   call-runs body ok false e =
-      let Q : ℕ → State → Machine → Type 0 = Value-in-place img g locals (x .in-back) sp fp left 0 mem in
+      let Q : Good = Value-in-place img g locals (x .in-back) sp fp left 0 mem in
       let le : frame-size p ≤ left = ltb-false left (frame-size p) e in
       let back : ℕ → State → Outcome = λ k t. fine (word (t .locals) 0) (with-locals t (s .locals)) in
       let f : Framed p v (x .in-back) sp fp mem framed-mem = framed p v (x .in-back) sp fp mem (h .size) (omega arith) (omega arith) in

@@ -29,7 +29,8 @@ length-clear i (suc n) = ap suc (length-clear (suc i) n)
 -- Code ends where it should.
 module _ (g : Program) where
   past-two : (operation : List Instruction) (a b : Expr) (rest : List Instruction) (at : ℕ) →
-      ((rest : List Instruction) (at : ℕ) → past (code-expr g a rest) at ≡ past rest (end-of-expr a at)) → ((rest : List Instruction) (at : ℕ) → past (code-expr g b rest) at ≡ past rest (end-of-expr b at)) →
+      ((rest : List Instruction) (at : ℕ) → past (code-expr g a rest) at ≡ past rest (end-of-expr a at)) →
+      ((rest : List Instruction) (at : ℕ) → past (code-expr g b rest) at ≡ past rest (end-of-expr b at)) →
       past (code-expr g a (push ++ code-expr g b (pop ++ (operation ++ rest)))) at ≡ past rest (end-of-two operation (end-of-expr b (past push (end-of-expr a at))))
   past-two operation a b rest at past-a past-b =
       past-a (push ++ code-expr g b (pop ++ (operation ++ rest))) at ∙ past-b (pop ++ (operation ++ rest)) (past push (end-of-expr a at))
@@ -94,7 +95,8 @@ size-stmt (while e a) at = let x = size-expr e at in let y = size-stmt a (loop-p
 size-stmt (out e) at = let x = size-expr e at in omega arith
 size-stmt (take i) at = omega arith
 
-pub size-procs : (globals count : ℕ) (ps : List Proc) (at : ℕ) → T (fits-procs globals count ps) → (end-of-procs ps at ≤ at + 80 * length ps + 10 * signs ps) × (at ≤ end-of-procs ps at)
+pub size-procs : (globals count : ℕ) (ps : List Proc) (at : ℕ) → T (fits-procs globals count ps) →
+    (end-of-procs ps at ≤ at + 80 * length ps + 10 * signs ps) × (at ≤ end-of-procs ps at)
 size-procs globals count [] at ok = omega arith
 size-procs globals count (p ∷ ps) at ok =
     let fit = first-fits globals count p ps ok in

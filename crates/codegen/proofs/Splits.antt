@@ -25,11 +25,12 @@ module _ (g : Program) where
   after-block : (block : List Instruction) (next : List Instruction → List Instruction) → Splits next → Splits (λ rest. block ++ next rest)
   after-block block next second rest = ap (λ (is : List Instruction). block ++ is) (second rest) ∙ sym (append-assoc block (next []) rest)
 
-  splits-two : (operation : List Instruction) (a b : Expr) → Splits (code-expr g a) → Splits (code-expr g b) → Splits (λ rest. code-expr g a (push ++ code-expr g b (pop ++ (operation ++ rest))))
+  splits-two : (operation : List Instruction) (a b : Expr) → Splits (code-expr g a) → Splits (code-expr g b) →
+      Splits (λ rest. code-expr g a (push ++ code-expr g b (pop ++ (operation ++ rest))))
   splits-two operation a b first second =
       in-a-row (code-expr g a) (λ rest. push ++ code-expr g b (pop ++ (operation ++ rest))) first
-        (after-block push (λ rest. code-expr g b (pop ++ (operation ++ rest)))
-          (in-a-row (code-expr g b) (λ rest. pop ++ (operation ++ rest)) second (after-block pop (λ rest. operation ++ rest) (alone operation))))
+      (after-block push (λ rest. code-expr g b (pop ++ (operation ++ rest)))
+      (in-a-row (code-expr g b) (λ rest. pop ++ (operation ++ rest)) second (after-block pop (λ rest. operation ++ rest) (alone operation))))
 
   pub splits-expr : (e : Expr) (rest : List Instruction) → code-expr g e rest ≡ code-expr g e [] ++ rest
   splits-expr (num n) rest = alone (constant value n) rest
@@ -50,19 +51,19 @@ module _ (g : Program) where
   splits-stmt (setglob i e) at rest = in-a-row (code-expr g e) (λ r. store-global i ++ r) (splits-expr e) (alone (store-global i)) rest
   splits-stmt (setcell e f) at rest =
       in-a-row (code-expr g e) (λ r. push ++ code-expr g f (store-cell (g .cells) ++ r)) (splits-expr e)
-        (after-block push (λ r. code-expr g f (store-cell (g .cells) ++ r)) (in-a-row (code-expr g f) (λ r. store-cell (g .cells) ++ r) (splits-expr f) (alone (store-cell (g .cells))))) rest
+      (after-block push (λ r. code-expr g f (store-cell (g .cells) ++ r)) (in-a-row (code-expr g f) (λ r. store-cell (g .cells) ++ r) (splits-expr f) (alone (store-cell (g .cells))))) rest
   splits-stmt (if e s t) at rest =
       let q : ℕ = then-place e t at in
       let way-on : List Instruction = go-to (end-of-stmt (if e s t) at) in
       in-a-row (code-expr g e) (λ r. go-unless-zero q ++ code-stmt g t (else-place e at) (way-on ++ code-stmt g s q r)) (splits-expr e)
-        (after-block (go-unless-zero q) (λ r. code-stmt g t (else-place e at) (way-on ++ code-stmt g s q r))
-          (in-a-row (code-stmt g t (else-place e at)) (λ r. way-on ++ code-stmt g s q r) (splits-stmt t (else-place e at)) (after-block way-on (code-stmt g s q) (splits-stmt s q)))) rest
+      (after-block (go-unless-zero q) (λ r. code-stmt g t (else-place e at) (way-on ++ code-stmt g s q r))
+      (in-a-row (code-stmt g t (else-place e at)) (λ r. way-on ++ code-stmt g s q r) (splits-stmt t (else-place e at)) (after-block way-on (code-stmt g s q) (splits-stmt s q)))) rest
   splits-stmt (while e s) at rest =
       let q : ℕ = loop-place e at in
       let way-out : List Instruction = go-to (end-of-stmt (while e s) at) in
       in-a-row (code-expr g e) (λ r. go-unless-zero q ++ (way-out ++ code-stmt g s q (go-to at ++ r))) (splits-expr e)
-        (after-block (go-unless-zero q) (λ r. way-out ++ code-stmt g s q (go-to at ++ r))
-          (after-block way-out (λ r. code-stmt g s q (go-to at ++ r)) (in-a-row (code-stmt g s q) (λ r. go-to at ++ r) (splits-stmt s q) (alone (go-to at))))) rest
+      (after-block (go-unless-zero q) (λ r. way-out ++ code-stmt g s q (go-to at ++ r))
+      (after-block way-out (λ r. code-stmt g s q (go-to at ++ r)) (in-a-row (code-stmt g s q) (λ r. go-to at ++ r) (splits-stmt s q) (alone (go-to at))))) rest
   splits-stmt (out e) at rest = in-a-row (code-expr g e) (λ r. put-out ++ r) (splits-expr e) (alone put-out) rest
   splits-stmt (take i) at rest = alone (take-to-local i) rest
 
@@ -70,6 +71,6 @@ module _ (g : Program) where
   splits-proc p at rest =
       let body : List Instruction → List Instruction = λ r. code-stmt g (p .body) (body-place p at) (leave-frame p ++ r) in
       after-block (check-room p) (λ r. make-frame p ++ (clear-words 0 (p .locals) ++ body r))
-        (after-block (make-frame p) (λ r. clear-words 0 (p .locals) ++ body r)
-          (after-block (clear-words 0 (p .locals)) body
-            (in-a-row (code-stmt g (p .body) (body-place p at)) (λ r. leave-frame p ++ r) (splits-stmt (p .body) (body-place p at)) (alone (leave-frame p))))) rest
+      (after-block (make-frame p) (λ r. clear-words 0 (p .locals) ++ body r)
+      (after-block (clear-words 0 (p .locals)) body
+      (in-a-row (code-stmt g (p .body) (body-place p at)) (λ r. leave-frame p ++ r) (splits-stmt (p .body) (body-place p at)) (alone (leave-frame p))))) rest

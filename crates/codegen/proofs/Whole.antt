@@ -9,14 +9,14 @@ use lib.Dec.{ltb, lit≤}
 use lib.ListN.{length, length-replicate}
 use Rattle.words.specs.Words.{word, memory-size}
 use Rattle.words.proofs.Memory.{word-of-zeros}
-use Rattle.machine.specs.Machine.{begin}
+use Rattle.machine.specs.Machine.{Machine, begin}
 use Rattle.language.specs.Language.{Stmt, while, Proc, Program, State, start, source, enter, room-inside, proc-at, run-stmt, run-call, frame-size, frame-room}
 use Rattle.codegen.specs.Layout.{stack-top, stack-base, globals-base, cells-base}
 use Rattle.codegen.specs.Instructions.{Instruction, DONE, past, Stands}
 use Rattle.codegen.specs.Codegen.{first-call, start-code, first-proc, entry, proc-place, end-of-proc, code-procs, code}
 use Rattle.codegen.specs.Heart.{Scratch, at-work, Holds, Value-in-place, Does, Expression-runs, Statement-runs}
 use Rattle.codegen.proofs.Rows.{stands-front, stands-past}
-use Rattle.codegen.proofs.Outcomes.{by-row, along, is-spent}
+use Rattle.codegen.proofs.Outcomes.{Good, by-row, along, is-spent}
 use Rattle.codegen.proofs.Blocks.{from-bytes}
 use Rattle.codegen.proofs.Limits.{Within-limits, within-limits, proc-there, body-fits-at}
 use Rattle.codegen.proofs.Exprs.{Calls-run, expr-runs}
@@ -29,7 +29,8 @@ pub record Entry-stands (img : List ℕ) (g : Program) (p : Proc) (at : ℕ) : T
   pub behind : List Instruction
   pub parts : Proc-stands img g p behind at
 
-procs-stand : (img : List ℕ) (g : Program) (ps : List Proc) (at : ℕ) → Stands img at (code-procs g ps at) → (f : ℕ) (p : Proc) → proc-at ps f ≡ some p → Entry-stands img g p (proc-place ps at f)
+procs-stand : (img : List ℕ) (g : Program) (ps : List Proc) (at : ℕ) → Stands img at (code-procs g ps at) → (f : ℕ) (p : Proc) →
+    proc-at ps f ≡ some p → Entry-stands img g p (proc-place ps at f)
 procs-stand img g [] at st f p e = let z : _≡_ {A = ℕ} 0 1 = cc in absurd (omega arith)
 procs-stand img g (d ∷ ps) at st zero p e =
     let same : d ≡ p = cc in
@@ -94,16 +95,20 @@ module _ (img : List ℕ) (g : Program) (within : Within-limits g) (st : Stands 
     pub program-does : (tape : List ℕ) (n : ℕ) → Does n (Value-in-place img g 0 done-place stack-top stack-top frame-room 0 img) (source g tape n) (begin img tape)
     program-does tape n =
         let some-proc = within .some-proc in
+        let Q : Good = Value-in-place img g 0 done-place stack-top stack-top frame-room 0 img in
+        let call : List Instruction = first-call (entry g 0) in
         let x : Scratch = record { in-work = entry g 0; in-back = done-place; in-spare = 0 } in
-        along n (Value-in-place img g 0 done-place stack-top stack-top frame-room 0 img) (source g tape n) {m′ = at-work (entry g 0) 0 x stack-top stack-top frame-room img (start g tape)}
-        (by-row img (first-call (entry g 0)) (λ j b. refl) refl tt (stands-front img (first-call (entry g 0)) (DONE ∷ []) 0 (stands-front img (start-code (entry g 0)) (code-procs g (g .procs) first-proc) 0 st)) (omega arith) (rw (from-bytes (entry g 0)) refl))
+        let begun : Machine = at-work (entry g 0) 0 x stack-top stack-top frame-room img (start g tape) in
+        let at-call = stands-front img call (DONE ∷ []) 0 (stands-front img (start-code (entry g 0)) (code-procs g (g .procs) first-proc) 0 st) in
+        along n Q (source g tape n) {m′ = begun} (by-row img call (λ j b. refl) refl tt at-call (omega arith) (rw (from-bytes (entry g 0)) refl))
         (runs-with n .calls frame-room 0 0 0 (start g tape) x stack-top stack-top img (omega arith) (at-start tape) (lit≤ tt) (omega arith) (omega arith))
 
 -- The heart.
 pub expression-runs : Expression-runs
 expression-runs img g ok st fuel locals e rest s at v x sp fp left mem at-code fits-e h low in-frame high =
     let within = within-limits g ok in
-    expr-runs img g (within .few-globals) (within .few-cells) locals fuel left (λ f u t. run-call fuel g left f u t) (runs-with img g within st fuel .calls left) e rest s at v x sp fp mem at-code fits-e h low in-frame high
+    let calls = runs-with img g within st fuel .calls left in
+    expr-runs img g (within .few-globals) (within .few-cells) locals fuel left (λ f u t. run-call fuel g left f u t) calls e rest s at v x sp fp mem at-code fits-e h low in-frame high
 
 pub statement-runs : Statement-runs
 statement-runs img g ok st fuel locals c rest s at v x fp left mem at-code fits-c h low high =

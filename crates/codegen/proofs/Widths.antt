@@ -32,7 +32,8 @@ module _ (g : Program) (locals count : ℕ) (few-globals : g .globals ≤ most-g
   Ok-stmt c = T (fits-stmt locals (g .globals) count c)
 
   two-within : (operation : List Instruction) → All-within operation → (a b : Expr) →
-      ((rest : List Instruction) → Ok a → All-within rest → All-within (code-expr g a rest)) → ((rest : List Instruction) → Ok b → All-within rest → All-within (code-expr g b rest)) →
+      ((rest : List Instruction) → Ok a → All-within rest → All-within (code-expr g a rest)) →
+      ((rest : List Instruction) → Ok b → All-within rest → All-within (code-expr g b rest)) →
       (rest : List Instruction) → T (fits-expr locals (g .globals) count a && fits-expr locals (g .globals) count b) → All-within rest →
       All-within (code-expr g a (push ++ code-expr g b (pop ++ (operation ++ rest))))
   two-within operation fit a b within-a within-b rest ok h =

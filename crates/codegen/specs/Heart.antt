@@ -1,5 +1,5 @@
 -- The heart of the compiler: what the code of an expression and of a statement does, at any place of the code and with any
--- frames below.
+-- frames below it in the stack (which are at higher places, since the stack grows downwards).
 use mathlib.Core.Path.{_≡_}
 use mathlib.Core.Bool.{Bool}
 use mathlib.Core.List.{List, [], _∷_}
@@ -54,9 +54,9 @@ pub record Changed-within (lo hi : ℕ) (mem mem′ : List ℕ) : Type 0 where
   pub below : (j : ℕ) → stack-base ≤ j → j < lo → word mem′ j ≡ word mem j
   pub above : (j : ℕ) → hi ≤ j → word mem′ j ≡ word mem j
 
--- After an expression that takes so many words: the machine is at a place with the value, stack pointer, frame pointer and
--- room as before. All frames from the stack pointer up are untouched; below it, no more words are used than those of the
--- expression and those that are left for frames.
+-- After an expression that takes so many words: the machine is at a place with the value; stack pointer, frame pointer and
+-- room are as before. All frames, which begin at the stack pointer, are untouched; at lower places, no more words are used
+-- than the expression takes and are left for frames.
 pub record Value-in-place (img : List ℕ) (g : Program) (locals at sp fp left taken : ℕ) (mem : List ℕ) (v : ℕ) (s : State) (m : Machine) : Type 0 where
   pub scratch : Scratch
   pub memory : List ℕ
@@ -65,7 +65,7 @@ pub record Value-in-place (img : List ℕ) (g : Program) (locals at sp fp left t
   pub frames-kept : Changed-within (sp - (left + taken)) sp mem memory
 
 -- After a statement: the same, with some value, nothing on the stack below the frame, and the frame's own locals changed at will.
-pub record Statement-done (img : List ℕ) (g : Program) (locals at fp left taken : ℕ) (mem : List ℕ) (none : ℕ) (s : State) (m : Machine) : Type 0 where
+pub record Statement-done (img : List ℕ) (g : Program) (locals at fp left taken : ℕ) (mem : List ℕ) (unused : ℕ) (s : State) (m : Machine) : Type 0 where
   pub value : ℕ
   pub scratch : Scratch
   pub memory : List ℕ
@@ -79,13 +79,6 @@ pub record Comes-to (Good : ℕ → Machine → Type 0) (m : Machine) : Type 0 w
   pub top : Leaves-top-for count m
   pub good : Good count (steps count m)
 
--- an expression or statement of the program, in a procedure with so many locals, is within the limits
-abbrev pub expr-ok : Program → ℕ → Expr → Bool
-expr-ok g locals e = fits-expr locals (g .globals) (length (g .procs)) e
-
-abbrev pub stmt-ok : Program → ℕ → Stmt → Bool
-stmt-ok g locals c = fits-stmt locals (g .globals) (length (g .procs)) c
-
 -- What the machine does from m on, by how a part of the program's run comes out: it comes to where Good holds of the value
 -- and the state; or it halts in the same way, with the same words put out and left on the tape; or the fuel is spent, and
 -- the machine has gone on for at least as many steps, to the same words.
@@ -93,6 +86,13 @@ abbrev pub Does : ℕ → (ℕ → State → Machine → Type 0) → Outcome →
 Does fuel Good (fine v t) = Comes-to (λ k m. Good v t m)
 Does fuel Good (ends how t) = Comes-to (λ k m. (seen-machine m ≡ seen-outcome (ends how t)) × (0 < how))
 Does fuel Good (spent t) = Comes-to (λ k m. (seen-machine m ≡ seen-outcome (spent t)) × (fuel ≤ k))
+
+-- an expression or statement of the program, in a procedure with so many locals, is within the limits
+abbrev pub expr-ok : Program → ℕ → Expr → Bool
+expr-ok g locals e = fits-expr locals (g .globals) (length (g .procs)) e
+
+abbrev pub stmt-ok : Program → ℕ → Stmt → Bool
+stmt-ok g locals c = fits-stmt locals (g .globals) (length (g .procs)) c
 
 -- In every memory that has the program's code: where the code of an expression stands, the machine at its first word does
 -- what the expression does, and comes to the code's end with its value.
