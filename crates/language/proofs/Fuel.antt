@@ -15,11 +15,11 @@ use Rattle.words.proofs.Runs.{prefix-refl, prefix-trans}
 use Rattle.language.specs.Language.{Expr, num, loc, glob, cell, add, sub, nand, less, half, call, Stmt, skip, then, setloc, setglob, setcell, if, while, out, take, Proc, Program, State, with-locals, set-local, set-global, set-cell, put-out, take-word, Outcome, fine, ends, spent, bind, eval, exec, enter, room-inside, proc-at, frame-size, frame-room, run-stmt, run-call, start, source, seen-outcome, Fuel-keeps}
 
 -- the words that a run has put out
-abbrev outs : Outcome → List ℕ
+abbrev pub outs : Outcome → List ℕ
 outs r = seen-outcome r .shown
 
 -- r′ goes as far as r: it is the same, or r ran out of fuel before
-abbrev As-far : Outcome → Outcome → Type 0
+abbrev pub As-far : Outcome → Outcome → Type 0
 As-far (fine v s) r′ = r′ ≡ fine v s
 As-far (ends how s) r′ = r′ ≡ ends how s
 As-far (spent s) r′ = Prefix (s .out) (outs r′)
@@ -30,11 +30,11 @@ as-far-refl (ends how s) = refl
 as-far-refl (spent s) = prefix-refl (s .out)
 
 -- behind the words o, r′ puts out more and goes as far as r
-record Extends (o : List ℕ) (r r′ : Outcome) : Type 0 where
-  more : Prefix o (outs r′)
-  as-far : As-far r r′
+pub record Extends (o : List ℕ) (r r′ : Outcome) : Type 0 where
+  pub more : Prefix o (outs r′)
+  pub as-far : As-far r r′
 
-bind-more : (o : List ℕ) (r : Outcome) (k : ℕ → State → Outcome) → Prefix o (outs r) → ((v : ℕ) (s : State) → Prefix (s .out) (outs (k v s))) → Prefix o (outs (bind r k))
+pub bind-more : (o : List ℕ) (r : Outcome) (k : ℕ → State → Outcome) → Prefix o (outs r) → ((v : ℕ) (s : State) → Prefix (s .out) (outs (k v s))) → Prefix o (outs (bind r k))
 bind-more o (fine v s) k p g = prefix-trans o (s .out) (outs (k v s)) p (g v s)
 bind-more o (ends how s) k p g = p
 bind-more o (spent s) k p g = p
@@ -66,7 +66,7 @@ module _ (c c′ : ℕ → ℕ → State → Outcome) (calls : (f v : ℕ) (s : 
       Extends (s .out) (bind (eval c a s) (λ u t. bind (eval c b t) (λ v w. fine (op u v) w))) (bind (eval c′ a s) (λ u t. bind (eval c′ b t) (λ v w. fine (op u v) w)))
   on-two a b op ga gb s = extends-bind (s .out) _ _ _ _ (ga s) (λ u t. extends-bind (t .out) _ _ _ _ (gb t) (λ v w. silent (op u v) w w refl))
 
-  expr-extends : (e : Expr) (s : State) → Extends (s .out) (eval c e s) (eval c′ e s)
+  pub expr-extends : (e : Expr) (s : State) → Extends (s .out) (eval c e s) (eval c′ e s)
   expr-extends (num n) s = silent n s s refl
   expr-extends (loc i) s = silent (word (s .locals) i) s s refl
   expr-extends (glob i) s = silent (word (s .globals) i) s s refl
@@ -80,7 +80,7 @@ module _ (c c′ : ℕ → ℕ → State → Outcome) (calls : (f v : ℕ) (s : 
   expr-extends (call f a) s = extends-bind (s .out) _ _ _ _ (expr-extends a s) (λ u t. calls f u t)
 
   module _ (w w′ : Expr → Stmt → State → Outcome) (turns : (e : Expr) (p : Stmt) (s : State) → Extends (s .out) (w e p s) (w′ e p s)) where
-    stmt-extends : (p : Stmt) (s : State) → Extends (s .out) (exec c w p s) (exec c′ w′ p s)
+    pub stmt-extends : (p : Stmt) (s : State) → Extends (s .out) (exec c w p s) (exec c′ w′ p s)
     stmt-extends skip s = silent 0 s s refl
     stmt-extends (then p q) s = extends-bind (s .out) _ _ _ _ (stmt-extends p s) (λ v t. stmt-extends q t)
     stmt-extends (setloc i e) s = extends-bind (s .out) _ _ _ _ (expr-extends e s) (λ v t. silent 0 t (set-local t i v) refl)
@@ -99,7 +99,7 @@ enter-extends b b′ bodies (some d) room v s = extends-cond (s .out) (ltb room 
     (extends-bind (s .out) _ _ _ _ (bodies (d .body) (with-locals s (v ∷ replicate (d .locals) 0))) (λ z t. silent _ t (with-locals t (s .locals)) refl))
 
 -- what fuel n does, fuel m does and more
-abbrev Fuel-extends : Program → ℕ → ℕ → Type 0
+abbrev pub Fuel-extends : Program → ℕ → ℕ → Type 0
 Fuel-extends g n m =
     ((room : ℕ) (p : Stmt) (s : State) → Extends (s .out) (run-stmt n g room p s) (run-stmt m g room p s))
     × ((room f v : ℕ) (s : State) → Extends (s .out) (run-call n g room f v s) (run-call m g room f v s))
@@ -112,7 +112,7 @@ fuel-suc g n m ih = (
   (λ room f v s. enter-extends _ _ (λ p t. ih .0 (room-inside (proc-at (g .procs) f) room) p t) (proc-at (g .procs) f) room v s),
 )
 
-same-fuel : (g : Program) (m : ℕ) → Fuel-extends g m m
+pub same-fuel : (g : Program) (m : ℕ) → Fuel-extends g m m
 same-fuel g zero = ((λ room p s. same s (spent s) (prefix-refl (s .out))), (λ room f v s. same s (spent s) (prefix-refl (s .out))))
 same-fuel g (suc m) = fuel-suc g m m (same-fuel g m)
 

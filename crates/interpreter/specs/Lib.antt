@@ -1,0 +1,3 @@
+-- The interpreter: heights from nodes, and what a run over lent memory promises.
+pub mod Heights
+pub mod Running
