@@ -10,16 +10,16 @@ use lib.Dec.{eqb, ltb}
 use Rattle.words.specs.Words.{value, shifted, bit-at, word, put, nands}
 use Rattle.words.proofs.Bits.{value-not, all-low, all-low-is}
 use Rattle.circuit.specs.Circuit.{settle, Sound-gates, All-below}
-use Rattle.circuit.specs.Parts.{Gates, after, inverter-gates, inverter-results, nand-gates, mux-gates, mux-results, zero-gates}
+use Rattle.circuit.specs.Parts.{Gates, after, inverter-gates, inverter-results, nand-gates, mux-gates, mux-results, invert-if-gates, zero-gates}
 use Rattle.circuit.specs.PartsAdder.{adder-gates, adder-results, adder-carry, subtract-gates, subtract-results, less-result}
 use Rattle.circuit.specs.PartsRegisters.{read-gates, read-results, write-gates, write-results}
-use Rattle.circuit.specs.PartsLaws.{word-on, levels-on, words-on, selected, Lines, File, Inverter-inverts, Nand-nands, Mux-chooses, Zero-tests, Adder-adds, Subtract-subtracts, Less-compares, Port-reads, Port-writes}
+use Rattle.circuit.specs.PartsLaws.{word-on, levels-on, words-on, selected, Lines, File, Inverter-inverts, Nand-nands, Mux-chooses, Invert-if-inverts, Zero-tests, Adder-adds, Subtract-subtracts, Less-compares, Port-reads, Port-writes}
 use Rattle.circuit.proofs.Settling.{Obeys, obeys-both, kept, kept-word, settle-obeys, after-both}
-use Rattle.circuit.proofs.Words.{inverts, inverts-one, nands-are, chooses, tests-zero}
+use Rattle.circuit.proofs.Words.{inverts, inverts-one, nands-are, chooses, inverts-if, tests-zero}
 use Rattle.circuit.proofs.Adding.{adds, subtracts}
 use Rattle.circuit.proofs.Reading.{Wide, Inverses, line-levels, file-levels, reads}
 use Rattle.circuit.proofs.Writing.{writes}
-use Rattle.circuit.proofs.Sound.{inverter-sound, nand-sound, mux-sound, zero-sound, adder-sound, subtract-sound, File-below, Lines-below, read-sound, write-sound}
+use Rattle.circuit.proofs.Sound.{inverter-sound, nand-sound, mux-sound, invert-if-sound, zero-sound, adder-sound, subtract-sound, File-below, Lines-below, read-sound, write-sound}
 
 no-more : (n : ℕ) → n ≤ n
 no-more n = omega arith
@@ -47,6 +47,18 @@ mux-chooses v s t xs ys i a b l =
     let et : bit-at (settle g v) t ≡ not (bit-at (settle g v) s) = kept g v t (i .0 .1) ∙ (i .0 .2 ∙ ap not (sym es)) in
     let e = chooses (bit-at (settle g v)) (length v) s t xs ys l et (settle-obeys g v (mux-sound (length v) (length v) s t xs ys (no-more (length v)) (i .0 .0) (i .0 .1) a b)) in
     ap value e ∙ rw (es, kept-word g v xs a, kept-word g v ys b) (value-cond (bit-at v s) (levels-on v xs) (levels-on v ys))
+
+-- the value of a word's inverse
+inverse-value : (bs : List Bool) → value (map not bs) ≡ shifted (length bs) 1 - 1 - value bs
+inverse-value bs = let e = value-not bs in omega arith
+
+pub invert-if-inverts : Invert-if-inverts
+invert-if-inverts v s xs h a =
+    let g = invert-if-gates (length v) s xs in
+    let e = inverts-if (bit-at (settle g v)) (length v) s xs (settle-obeys g v (invert-if-sound (length v) (length v) s xs (no-more (length v)) h a)) in
+    let k : length (levels-on v xs) ≡ length xs = length-map xs (bit-at v) in
+    let i : value (map not (levels-on v xs)) ≡ shifted (length xs) 1 - 1 - word-on v xs = inverse-value (levels-on v xs) ∙ ap (λ n. shifted n 1 - 1 - word-on v xs) k in
+    ap value e ∙ rw (kept g v s h, kept-word g v xs a) (value-cond (bit-at v s) (map not (levels-on v xs)) (levels-on v xs) ∙ ap (λ x. cond (bit-at v s) x (word-on v xs)) i)
 
 pub zero-tests : Zero-tests
 zero-tests v z xs h e a =

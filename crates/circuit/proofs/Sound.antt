@@ -6,7 +6,7 @@ use Prim.Native.Nat.{ℕ, zero, suc, _+_, _<_, _≤_}
 use native.Mathlib.Omega.{arith}
 use lib.ListN.{length}
 use Rattle.circuit.specs.Circuit.{Sound-gates, All-below}
-use Rattle.circuit.specs.Parts.{Gates, after, plus2, plus3, plus4, inverter-gates, inverter-results, nand-gates, mux-gates, mux-results, zero-gates}
+use Rattle.circuit.specs.Parts.{Gates, after, plus2, plus3, plus4, inverter-gates, inverter-results, nand-gates, mux-gates, mux-results, invert-if-gates, zero-gates}
 use Rattle.circuit.specs.PartsAdder.{plus8, plus9, full-adder, adder-gates, adder-carry, subtract-gates}
 use Rattle.circuit.specs.PartsRegisters.{level-gates, level-results, read-gates, split-gates, split-results, decoder, keep-gates, write-gates}
 use Rattle.circuit.proofs.Settling.{after-length, after-both}
@@ -49,6 +49,13 @@ unfolding mux-gates mux-results
 mux-below n m s t [] ys = tt
 mux-below n m s t (x ∷ xs) [] = tt
 mux-below n m s t (x ∷ xs) (y ∷ ys) = (let e = after-more (plus3 m) (mux-gates (plus3 m) s t xs ys) in omega arith, mux-below n (plus3 m) s t xs ys)
+
+pub invert-if-sound : (n m s : ℕ) (xs : List ℕ) → n ≤ m → s < n → All-below xs n → Sound-gates (invert-if-gates m s xs) m
+unfolding invert-if-gates
+invert-if-sound n m s [] h hs a = tt
+invert-if-sound n m s (x ∷ xs) h hs a =
+    let p = a .0 in
+    (omega arith, omega arith, (omega arith, omega arith, (omega arith, omega arith, (omega arith, omega arith, invert-if-sound n (plus4 m) s xs (omega arith) hs (a .1)))))
 
 pub zero-sound : (n m z : ℕ) (xs : List ℕ) → n ≤ m → z < m → All-below xs n → Sound-gates (zero-gates m z xs) m
 unfolding zero-gates

@@ -9,7 +9,7 @@ use lib.ListN.{length}
 use lib.Dec.{ltb, eqb}
 use Rattle.words.specs.Words.{bit, value, shifted, nands, bit-at, word, put}
 use Rattle.circuit.specs.Circuit.{settle, All-below}
-use Rattle.circuit.specs.Parts.{Gates, inverter-gates, inverter-results, nand-gates, nand-results, mux-gates, mux-results, zero-gates, zero-result}
+use Rattle.circuit.specs.Parts.{Gates, inverter-gates, inverter-results, nand-gates, nand-results, mux-gates, mux-results, invert-if-gates, invert-if-results, zero-gates, zero-result}
 use Rattle.circuit.specs.PartsAdder.{adder-gates, adder-results, adder-carry, subtract-gates, subtract-results, less-result}
 use Rattle.circuit.specs.PartsRegisters.{read-gates, read-results, write-gates, write-results}
 
@@ -54,6 +54,11 @@ Nand-nands = (v : List Bool) (xs ys : List ℕ) → All-below xs (length v) → 
 abbrev pub Mux-chooses : Type 0
 Mux-chooses = (v : List Bool) (s t : ℕ) (xs ys : List ℕ) → Lines v ((s, t) ∷ []) → All-below xs (length v) → All-below ys (length v) → length xs ≡ length ys →
     word-on (settle (mux-gates (length v) s t xs ys) v) (mux-results (length v) xs ys) ≡ cond (bit-at v s) (word-on v xs) (word-on v ys)
+
+-- the inverse of the word where the line is high, else the word
+abbrev pub Invert-if-inverts : Type 0
+Invert-if-inverts = (v : List Bool) (s : ℕ) (xs : List ℕ) → s < length v → All-below xs (length v) →
+    word-on (settle (invert-if-gates (length v) s xs) v) (invert-if-results (length v) xs) ≡ cond (bit-at v s) (shifted (length xs) 1 - 1 - word-on v xs) (word-on v xs)
 
 -- high where the word is 0
 abbrev pub Zero-tests : Type 0

@@ -1,6 +1,6 @@
 // The definition of a circuit and of its board is in specs/. Each function here asks, by its contract, for the proof of
 // the law of one part; a drawing cites the laws and never looks into a part again.
-ghost use Rattle.circuit.specs.PartsLaws.{Inverter-inverts, Nand-nands, Mux-chooses, Zero-tests, Adder-adds, Subtract-subtracts, Less-compares, Port-reads, Port-writes};
+ghost use Rattle.circuit.specs.PartsLaws.{Inverter-inverts, Nand-nands, Mux-chooses, Invert-if-inverts, Zero-tests, Adder-adds, Subtract-subtracts, Less-compares, Port-reads, Port-writes};
 
 // Inverters: a word and its inverse are all ones together.
 pub fn inverter_inverts() -> u8
@@ -19,6 +19,13 @@ pub fn nand_nands() -> u8
 // The choice gives the first word where its line is high, else the second.
 pub fn mux_chooses() -> u8
     ensures { λ _. ⌜ Mux-chooses ⌝ }
+{
+    0
+}
+
+// The conditional inverse gives the word's inverse where its line is high, else the word.
+pub fn invert_if_inverts() -> u8
+    ensures { λ _. ⌜ Invert-if-inverts ⌝ }
 {
     0
 }

@@ -31,15 +31,23 @@ pub enum Drawn {
     NoRoom,
 }
 
+// The numbers that a sheet must have room for, and the flip-flops and gates of the drawing.
+const ROOM: usize = 262144;
+
+const FLOPS: usize = 184;
+
+const GATES: usize = 1747;
+
 // Draws the machine at the front of a sheet of at least 262,144 numbers; the numbers past the drawing stay.
 pub fn draw(sheet: &mut [u32]) -> Drawn
     ensures { λ r. ⌜ Draw-promise (now (sheet .entry)) (now (sheet .exit)) r ⌝ }
 {
-    if sheet.len() < 262144 {
+    if sheet.len() < ROOM {
         return Drawn::NoRoom;
     }
+    // the values at power on, two numbers for each gate, the next signals, the pins
     put_power_on(sheet);
-    draw_control(&mut sheet[184..]);
+    draw_control(&mut sheet[FLOPS..]);
     draw_read(&mut sheet[328..]);
     draw_arithmetic(&mut sheet[1042..]);
     draw_result(&mut sheet[1780..]);
@@ -47,7 +55,7 @@ pub fn draw(sheet: &mut [u32]) -> Drawn
     draw_counter(&mut sheet[3380..]);
     put_next(&mut sheet[3678..]);
     put_pins(&mut sheet[3862..]);
-    Drawn::Sheet(184, 1747)
+    Drawn::Sheet(FLOPS, GATES)
 }
 
 // On every memory and tape, the board with the drawing does what the instruction machine does, within four cycles an
