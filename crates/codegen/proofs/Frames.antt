@@ -10,7 +10,7 @@ use lib.ListN.{length, replicate, length-replicate, length-set}
 use Rattle.std.proofs.shelf.Lists.{getD-set-same, getD-set-other}
 use Rattle.words.specs.Words.{add16, word, put, memory-size}
 use Rattle.words.specs.Runs.{ended-full}
-use Rattle.words.proofs.Memory.{word-of-zeros, cleared, cleared-none, cleared-more, length-cleared, cleared-below, cleared-above, cleared-is}
+use Rattle.words.proofs.Memory.{word-of-zeros, zeros-below, cleared, cleared-none, cleared-more, length-cleared, cleared-below, cleared-above, cleared-is}
 use Rattle.machine.specs.Machine.{Machine, halt}
 use Rattle.language.specs.Language.{Proc, Program, State, with-locals, frame-size}
 use Rattle.language.specs.Limits.{most-globals, most-cells}
@@ -103,13 +103,14 @@ module _ (p : Proc) (v q sp fp : ℕ) (mem : List ℕ) where
 
 -- Memory with the frame holds the state that the body begins with.
 module _ (img : List ℕ) (g : Program) (few-globals : g .globals ≤ most-globals) (few-cells : g .cells ≤ most-cells) (p : Proc) (locals v q sp fp : ℕ) (s : State) (mem mem′ : List ℕ)
-    (h : Holds img g locals s fp mem) (f : Framed p v q sp fp mem mem′) (lo : stack-base + frame-size p ≤ sp) where
+    (small : v < 65536) (h : Holds img g locals s fp mem) (f : Framed p v q sp fp mem mem′) (lo : stack-base + frame-size p ≤ sp) where
   own-locals : (i : ℕ) → i < 1 + p .locals → word mem′ (frame-place p sp + i) ≡ word (v ∷ replicate (p .locals) 0) i
   own-locals zero b = let e : frame-place p sp + 0 ≡ frame-place p sp = omega arith in ap (word mem′) e ∙ f .argument
   own-locals (suc i) b = let e : frame-place p sp + suc i ≡ suc (frame-place p sp) + i = omega arith in ap (word mem′) e ∙ f .zeros i (omega arith) ∙ sym (word-of-zeros (p .locals) i)
 
   pub frame-holds : Holds img g (1 + p .locals) (with-locals s (v ∷ replicate (p .locals) 0)) (frame-place p sp) mem′
   frame-holds = record {
+    words = record { locals-words = (small, zeros-below (p .locals)); globals-words = h .words .globals-words; cells-words = h .words .cells-words; tape-words = h .words .tape-words };
     size = f .size ∙ h .size;
     code-kept = λ j b. f .below j (omega arith) ∙ h .code-kept j b;
     globals-count = h .globals-count;

@@ -7,7 +7,8 @@ use Prim.Native.Nat.{ℕ, _+_, _<_, _≤_}
 use native.Mathlib.Omega.{arith}
 use lib.ListN.{length-set}
 use Rattle.std.proofs.shelf.Lists.{getD-set-other}
-use Rattle.words.specs.Words.{put}
+use Rattle.words.specs.Words.{put, Is-tape}
+use Rattle.words.proofs.Lists.{put-below}
 use Rattle.words.proofs.Memory.{put-both}
 use Rattle.language.specs.Language.{Program, State, set-local, set-global, set-cell}
 use Rattle.language.specs.Limits.{most-globals, most-cells}
@@ -18,6 +19,7 @@ module _ (img : List ℕ) (g : Program) (few-globals : g .globals ≤ most-globa
     (locals : ℕ) (s : State) (fp : ℕ) (mem : List ℕ) (h : Holds img g locals s fp mem) where
   pub holds-pushed : (p v : ℕ) → stack-base ≤ p → p < fp → Holds img g locals s fp (put mem p v)
   holds-pushed p v lo hi = record {
+    words = h .words;
     size = length-set mem p v ∙ h .size;
     code-kept = λ j b. getD-set-other mem p j v 0 (omega arith) ∙ h .code-kept j b;
     globals-count = h .globals-count;
@@ -29,8 +31,9 @@ module _ (img : List ℕ) (g : Program) (few-globals : g .globals ≤ most-globa
   }
 
   -- what is put out or taken changes nothing of memory
-  pub holds-io : (tape out : List ℕ) → Holds img g locals (record { locals = s .locals; globals = s .globals; cells = s .cells; tape = tape; out = out }) fp mem
-  holds-io tape out = record {
+  pub holds-io : (tape out : List ℕ) → Is-tape tape → Holds img g locals (record { locals = s .locals; globals = s .globals; cells = s .cells; tape = tape; out = out }) fp mem
+  holds-io tape out tape-words = record {
+    words = record { locals-words = h .words .locals-words; globals-words = h .words .globals-words; cells-words = h .words .cells-words; tape-words = tape-words };
     size = h .size;
     code-kept = h .code-kept;
     globals-count = h .globals-count;
@@ -41,9 +44,10 @@ module _ (img : List ℕ) (g : Program) (few-globals : g .globals ≤ most-globa
     locals-held = h .locals-held;
   }
 
-  module _ (lo : stack-base ≤ fp) (hi : fp + locals ≤ stack-top) (i v : ℕ) where
+  module _ (lo : stack-base ≤ fp) (hi : fp + locals ≤ stack-top) (i v : ℕ) (small : v < 65536) where
     pub holds-local : i < locals → Holds img g locals (set-local s i v) fp (put mem (fp + i) v)
     holds-local there = record {
+      words = record { locals-words = put-below (s .locals) i v (h .words .locals-words) small; globals-words = h .words .globals-words; cells-words = h .words .cells-words; tape-words = h .words .tape-words };
       size = length-set mem (fp + i) v ∙ h .size;
       code-kept = λ j b. getD-set-other mem (fp + i) j v 0 (omega arith) ∙ h .code-kept j b;
       globals-count = h .globals-count;
@@ -56,6 +60,7 @@ module _ (img : List ℕ) (g : Program) (few-globals : g .globals ≤ most-globa
 
     pub holds-global : i < g .globals → Holds img g locals (set-global s i v) fp (put mem (globals-base + i) v)
     holds-global there = record {
+      words = record { locals-words = h .words .locals-words; globals-words = put-below (s .globals) i v (h .words .globals-words) small; cells-words = h .words .cells-words; tape-words = h .words .tape-words };
       size = length-set mem (globals-base + i) v ∙ h .size;
       code-kept = λ j b. getD-set-other mem (globals-base + i) j v 0 (omega arith) ∙ h .code-kept j b;
       globals-count = length-set (s .globals) i v ∙ h .globals-count;
@@ -68,6 +73,7 @@ module _ (img : List ℕ) (g : Program) (few-globals : g .globals ≤ most-globa
 
     pub holds-cell : i < g .cells → Holds img g locals (set-cell s i v) fp (put mem (cells-base + i) v)
     holds-cell there = record {
+      words = record { locals-words = h .words .locals-words; globals-words = h .words .globals-words; cells-words = put-below (s .cells) i v (h .words .cells-words) small; tape-words = h .words .tape-words };
       size = length-set mem (cells-base + i) v ∙ h .size;
       code-kept = λ j b. getD-set-other mem (cells-base + i) j v 0 (omega arith) ∙ h .code-kept j b;
       globals-count = h .globals-count;

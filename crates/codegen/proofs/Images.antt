@@ -5,12 +5,11 @@ use mathlib.Core.List.{List, [], _∷_, _++_, map}
 use Prim.Native.Nat.{ℕ, zero, suc, _+_, _-_, _<_, _≤_}
 use native.Mathlib.Decide.{decLe}
 use native.Mathlib.Omega.{arith}
-use lib.Dec.{lit<}
 use lib.ListN.{length, replicate, length-replicate, length-append, length-map}
 use Rattle.std.proofs.shelf.Lists.{getD-append-left}
-use Rattle.words.specs.Words.{word, memory-size, All}
+use Rattle.words.specs.Words.{word, memory-size, All, Is-tape}
 use Rattle.words.specs.Runs.{Seen, running}
-use Rattle.words.proofs.Memory.{word-behind}
+use Rattle.words.proofs.Memory.{word-behind, zeros-below}
 use Rattle.words.proofs.Runs.{tracks-follows}
 use Rattle.machine.specs.Machine.{Machine, steps, begin, seen-machine, machine-run}
 use Rattle.machine.proofs.Steps.{steps-add, steps-from, steps-halted, machine-grows}
@@ -46,12 +45,8 @@ encode-below DONE h = omega arith
 encode-below INDEX h = omega arith
 encode-below FULL h = omega arith
 
-zeros-are-words : (k : ℕ) → All (λ x. x < 65536) (replicate k 0)
-zeros-are-words zero = tt
-zeros-are-words (suc k) = (lit< tt, zeros-are-words k)
-
 all-words : (is : List Instruction) (k : ℕ) → All-within is → All (λ x. x < 65536) (map encode is ++ replicate k 0)
-all-words [] k h = zeros-are-words k
+all-words [] k h = zeros-below k
 all-words (i ∷ is) k h = (encode-below i (h .0), all-words is k (h .1))
 
 -- instructions stand where their words do
@@ -107,12 +102,12 @@ module _ (g : Program) (within : Within-limits g) where
   tracked tape n (ends how t) d = let ended = d .good .1 in record { count = d .count; same = d .good .0; late = λ z. omega arith; top = d .top }
   tracked tape n (spent t) d = record { count = d .count; same = d .good .0; late = λ z. d .good .1; top = d .top }
 
-  track : (tape : List ℕ) (n : ℕ) → Tracked tape n (source g tape n)
-  track tape n = tracked tape n (source g tape n) (program-does (image g) g within code-stands image-size (λ j b c. image-blank j b) tape n)
+  track : (tape : List ℕ) → Is-tape tape → (n : ℕ) → Tracked tape n (source g tape n)
+  track tape words n = tracked tape n (source g tape n) (program-does (image g) g within code-stands image-size (λ j b c. image-blank j b) tape words n)
 
   -- a step that is carried out is one of those on the way, with enough fuel
-  leaves-top : (tape : List ℕ) (k : ℕ) → steps k (begin (image g) tape) .halted ≡ running → Leaves-top (steps k (begin (image g) tape))
-  leaves-top tape k runs = go (track tape (suc k))
+  leaves-top : (tape : List ℕ) → Is-tape tape → (k : ℕ) → steps k (begin (image g) tape) .halted ≡ running → Leaves-top (steps k (begin (image g) tape))
+  leaves-top tape words k runs = go (track tape words (suc k))
     where
       go : Tracked tape (suc k) (source g tape (suc k)) → Leaves-top (steps k (begin (image g) tape))
       go t = elim (decLe (suc k) (t .count)) [
@@ -131,9 +126,9 @@ module _ (g : Program) (within : Within-limits g) where
   right : Right-image g
   right = record {
     is-memory = (image-size, all-words (code g) (memory-size - length (code g)) (code-within g within));
-    does-the-same = λ tape words. tracks-follows (program-run g tape) (machine-run (image g) tape) (machine-grows (image g) tape) (λ n. (track tape n .count, track tape n .same, track tape n .late));
+    does-the-same = λ tape words. tracks-follows (program-run g tape) (machine-run (image g) tape) (machine-grows (image g) tape) (λ n. (track tape words n .count, track tape words n .same, track tape words n .late));
     top-blank = λ j b. image-blank j (omega arith);
-    top-alone = λ tape words. leaves-top tape;
+    top-alone = leaves-top;
   }
 
 pub images-right : Images-right

@@ -3,7 +3,7 @@
 use mathlib.Core.Path.{_≡_, refl, sym, _∙_, subst}
 use mathlib.Core.Bool.{Bool, true, false, cond}
 use mathlib.Core.List.{List, _∷_, _++_}
-use Prim.Native.Nat.{ℕ, suc, _+_, _-_, _≤_}
+use Prim.Native.Nat.{ℕ, suc, _+_, _-_, _<_, _≤_}
 use native.Mathlib.Omega.{arith}
 use lib.Dec.{T, ltb, lit<}
 use lib.ListN.{replicate}
@@ -11,6 +11,7 @@ use Rattle.std.proofs.shelf.Lists.{getD-set-other}
 use Rattle.std.proofs.shelf.Tests.{ltb-false}
 use Rattle.words.specs.Words.{add16, sub16, word, put}
 use Rattle.words.specs.Runs.{ended-full}
+use Rattle.words.proofs.Lists.{word-below}
 use Rattle.words.proofs.Memory.{cleared}
 use Rattle.machine.specs.Machine.{Machine}
 use Rattle.language.specs.Language.{Stmt, Proc, Program, State, with-locals, Outcome, fine, ends, bind, frame-size, stmt-height}
@@ -56,7 +57,7 @@ proc-stands img g p rest at st =
 
 module _ (img : List ℕ) (g : Program) (few-globals : g .globals ≤ most-globals) (few-cells : g .cells ≤ most-cells) (p : Proc) (rest : List Instruction) (at n : ℕ)
     (stands : Proc-stands img g p rest at) (run-body : Stmt → State → Outcome)
-    (locals v : ℕ) (s : State) (x : Scratch) (sp fp left : ℕ) (mem : List ℕ) (h : Holds img g locals s fp mem)
+    (locals v : ℕ) (s : State) (x : Scratch) (sp fp left : ℕ) (mem : List ℕ) (small : v < 65536) (h : Holds img g locals s fp mem)
     (low : stack-base + left ≤ sp) (in-frame : sp ≤ fp) (high : fp + locals ≤ stack-top) where
   abbrev own : State
   own = with-locals s (v ∷ replicate (p .locals) 0)
@@ -117,7 +118,9 @@ module _ (img : List ℕ) (g : Program) (few-globals : g .globals ≤ most-globa
         scratch = y;
         memory = B .memory;
         is = refl;
+        value-word = word-below (t .locals) 0 (B .holds .words .locals-words);
         holds = record {
+          words = record { locals-words = h .words .locals-words; globals-words = B .holds .words .globals-words; cells-words = B .holds .words .cells-words; tape-words = B .holds .words .tape-words };
           size = B .holds .size;
           code-kept = B .holds .code-kept;
           globals-count = B .holds .globals-count;
@@ -151,5 +154,5 @@ module _ (img : List ℕ) (g : Program) (few-globals : g .globals ≤ most-globa
       (does-bind n (Statement-done img g (1 + p .locals) (end-of-stmt (p .body) (body-place p at)) base inside (stmt-height (p .body)) framed-mem) Q (run-body (p .body) own) back
       (at-work (body-place p at) v y base base inside framed-mem own)
       (body (leave-frame p ++ rest) own (body-place p at) v y base framed-mem (stands .body) ok
-      (frame-holds img g few-globals few-cells p locals v (x .in-back) sp fp s mem framed-mem h f (omega arith)) (omega arith) (omega arith))
+      (frame-holds img g few-globals few-cells p locals v (x .in-back) sp fp s mem framed-mem small h f (omega arith)) (omega arith) (omega arith))
       (leaves le framed-mem f))

@@ -5,10 +5,10 @@ use mathlib.Core.List.{List, [], _∷_}
 use mathlib.Core.Option.{Option, some, none}
 use Prim.Native.Nat.{ℕ, zero, suc, _+_, _-_, _<_, _≤_}
 use native.Mathlib.Omega.{arith}
-use lib.Dec.{ltb, lit≤}
+use lib.Dec.{ltb, lit<, lit≤}
 use lib.ListN.{length, length-replicate}
-use Rattle.words.specs.Words.{word, memory-size}
-use Rattle.words.proofs.Memory.{word-of-zeros}
+use Rattle.words.specs.Words.{word, memory-size, Is-tape}
+use Rattle.words.proofs.Memory.{word-of-zeros, zeros-below}
 use Rattle.machine.specs.Machine.{Machine, begin}
 use Rattle.language.specs.Language.{Stmt, while, Proc, Program, State, start, source, enter, room-inside, proc-at, run-stmt, run-call, frame-size, frame-room}
 use Rattle.codegen.specs.Layout.{stack-top, stack-base, globals-base, cells-base}
@@ -40,14 +40,14 @@ procs-stand img g (d ∷ ps) at st (suc f) p e = procs-stand img g ps (end-of-pr
 module _ (img : List ℕ) (g : Program) (within : Within-limits g) (st : Stands img 0 (code g)) where
   -- a call, given what statements do with one less fuel
   called : (n left : ℕ) → ((left locals : ℕ) (c : Stmt) → Runs-stmt img g locals n left (run-stmt n g left c) c) →
-      (locals f v : ℕ) (s : State) (x : Scratch) (sp fp : ℕ) (mem : List ℕ) → f < length (g .procs) → Holds img g locals s fp mem →
+      (locals f v : ℕ) (s : State) (x : Scratch) (sp fp : ℕ) (mem : List ℕ) → f < length (g .procs) → v < 65536 → Holds img g locals s fp mem →
       stack-base + left ≤ sp → sp ≤ fp → fp + locals ≤ stack-top → (o : Option Proc) → proc-at (g .procs) f ≡ o →
       Does (suc n) (Value-in-place img g locals (x .in-back) sp fp left 0 mem) (enter (λ c t. run-stmt n g (room-inside o left) c t) o left v s) (at-work (entry g f) v x sp fp left mem s)
-  called n left stmts locals f v s x sp fp mem there h low in-frame high none e = absurd (proc-there (g .procs) f there e)
-  called n left stmts locals f v s x sp fp mem there h low in-frame high (some p) e =
+  called n left stmts locals f v s x sp fp mem there small h low in-frame high none e = absurd (proc-there (g .procs) f there e)
+  called n left stmts locals f v s x sp fp mem there small h low in-frame high (some p) e =
       let at-entry = procs-stand img g (g .procs) first-proc (stands-past img (start-code (entry g 0)) (code-procs g (g .procs) first-proc) 0 st) f p e in
       call-runs img g (within .few-globals) (within .few-cells) p (at-entry .behind) (entry g f) n (at-entry .parts) (λ c t. run-stmt n g (left - frame-size p) c t)
-      locals v s x sp fp left mem h low in-frame high (stmts (left - frame-size p) (1 + p .locals) (p .body))
+      locals v s x sp fp left mem small h low in-frame high (stmts (left - frame-size p) (1 + p .locals) (p .body))
       (body-fits-at (g .globals) (length (g .procs)) (g .procs) (within .procs-fit) f p e) (ltb left (frame-size p)) refl
 
   record Runs-with (n : ℕ) : Type 0 where
@@ -58,14 +58,14 @@ module _ (img : List ℕ) (g : Program) (within : Within-limits g) (st : Stands 
   runs-with : (n : ℕ) → Runs-with n
   runs-with zero = record {
     stmts = λ left locals c rest s at v x fp mem at-code ok h low high. is-spent s _ refl;
-    calls = λ left locals f v s x sp fp mem there h low in-frame high. is-spent s _ refl;
+    calls = λ left locals f v s x sp fp mem there small h low in-frame high. is-spent s _ refl;
   }
   runs-with (suc n) =
       let less = runs-with n in
       record {
         stmts = λ left locals c. stmt-runs img g (within .few-globals) (within .few-cells) locals n left (λ f v t. run-call n g left f v t) (less .calls left)
             (λ e p t. run-stmt n g left (while e p) t) (λ e p. less .stmts left locals (while e p)) c;
-        calls = λ left locals f v s x sp fp mem there h low in-frame high. called n left (less .stmts) locals f v s x sp fp mem there h low in-frame high (proc-at (g .procs) f) refl;
+        calls = λ left locals f v s x sp fp mem there small h low in-frame high. called n left (less .stmts) locals f v s x sp fp mem there small h low in-frame high (proc-at (g .procs) f) refl;
       }
 
   -- The start: the call, and behind it 'done'.
@@ -77,11 +77,12 @@ module _ (img : List ℕ) (g : Program) (within : Within-limits g) (st : Stands 
 
   -- memory holds the program's first state if it has as many words as it should, and 0 in the globals and cells
   module _ (size : length img ≡ memory-size) (blank : (j : ℕ) → globals-base ≤ j → j < stack-base → word img j ≡ 0) where
-    at-start : (tape : List ℕ) → Holds img g 0 (start g tape) stack-top img
-    at-start tape =
+    at-start : (tape : List ℕ) → Is-tape tape → Holds img g 0 (start g tape) stack-top img
+    at-start tape words =
         let few-globals = within .few-globals in
         let few-cells = within .few-cells in
         record {
+          words = record { locals-words = tt; globals-words = zeros-below (g .globals); cells-words = zeros-below (g .cells); tape-words = words };
           size = size;
           code-kept = λ j b. refl;
           globals-count = length-replicate {A = ℕ} (g .globals) 0;
@@ -92,8 +93,8 @@ module _ (img : List ℕ) (g : Program) (within : Within-limits g) (st : Stands 
           locals-held = λ i b. absurd (omega arith);
         }
 
-    pub program-does : (tape : List ℕ) (n : ℕ) → Does n (Value-in-place img g 0 done-place stack-top stack-top frame-room 0 img) (source g tape n) (begin img tape)
-    program-does tape n =
+    pub program-does : (tape : List ℕ) → Is-tape tape → (n : ℕ) → Does n (Value-in-place img g 0 done-place stack-top stack-top frame-room 0 img) (source g tape n) (begin img tape)
+    program-does tape words n =
         let some-proc = within .some-proc in
         let Q : Good = Value-in-place img g 0 done-place stack-top stack-top frame-room 0 img in
         let call : List Instruction = first-call (entry g 0) in
@@ -101,7 +102,7 @@ module _ (img : List ℕ) (g : Program) (within : Within-limits g) (st : Stands 
         let begun : Machine = at-work (entry g 0) 0 x stack-top stack-top frame-room img (start g tape) in
         let at-call = stands-front img call (DONE ∷ []) 0 (stands-front img (start-code (entry g 0)) (code-procs g (g .procs) first-proc) 0 st) in
         along n Q (source g tape n) {m′ = begun} (by-row img call (λ j b. refl) refl tt at-call (omega arith) (rw (from-bytes (entry g 0)) refl))
-        (runs-with n .calls frame-room 0 0 0 (start g tape) x stack-top stack-top img (omega arith) (at-start tape) (lit≤ tt) (omega arith) (omega arith))
+        (runs-with n .calls frame-room 0 0 0 (start g tape) x stack-top stack-top img (omega arith) (lit< tt) (at-start tape words) (lit≤ tt) (omega arith) (omega arith))
 
 -- The heart.
 pub expression-runs : Expression-runs

@@ -6,7 +6,7 @@ use mathlib.Core.List.{List, [], _∷_}
 use Prim.Native.Nat.{ℕ, suc, _+_, _-_, _<_, _≤_}
 use lib.Dec.{T}
 use lib.ListN.{length}
-use Rattle.words.specs.Words.{word, memory-size}
+use Rattle.words.specs.Words.{word, memory-size, Is-tape}
 use Rattle.words.specs.Runs.{running}
 use Rattle.machine.specs.Machine.{Machine, steps, seen-machine}
 use Rattle.language.specs.Language.{Expr, Stmt, Program, State, Outcome, fine, ends, spent, eval, height, stmt-height, run-stmt, run-call, seen-outcome}
@@ -38,8 +38,16 @@ at-work pc v x sp fp left mem s = record {
 abbrev pub Has-code : List ℕ → List ℕ → Type 0
 Has-code img mem = (j : ℕ) → j < code-limit → word mem j ≡ word img j
 
+-- everything in a state is a word
+pub record Of-words (s : State) : Type 0 where
+  pub locals-words : Is-tape (s .locals)
+  pub globals-words : Is-tape (s .globals)
+  pub cells-words : Is-tape (s .cells)
+  pub tape-words : Is-tape (s .tape)
+
 -- memory holds the image's code and a state of the program, with so many locals from the frame pointer on
 pub record Holds (img : List ℕ) (g : Program) (locals : ℕ) (s : State) (fp : ℕ) (mem : List ℕ) : Type 0 where
+  pub words : Of-words s
   pub size : length mem ≡ memory-size
   pub code-kept : Has-code img mem
   pub globals-count : length (s .globals) ≡ g .globals
@@ -61,6 +69,7 @@ pub record Value-in-place (img : List ℕ) (g : Program) (locals at sp fp left t
   pub scratch : Scratch
   pub memory : List ℕ
   pub is : m ≡ at-work at v scratch sp fp left memory s
+  pub value-word : v < 65536
   pub holds : Holds img g locals s fp memory
   pub frames-kept : Changed-within (sp - (left + taken)) sp mem memory
 

@@ -4,14 +4,19 @@ use mathlib.Core.List.{List, [], _∷_, _++_}
 use Prim.Native.Nat.{ℕ, zero, suc, _+_, _<_, _≤_}
 use native.Mathlib.Decide.{ℕ-discrete}
 use native.Mathlib.Omega.{arith}
+use lib.Dec.{lit<}
 use lib.ListN.{length, replicate, length-set}
 use Rattle.std.proofs.shelf.Lists.{getD-set-same, getD-set-other}
-use Rattle.words.specs.Words.{word, put}
+use Rattle.words.specs.Words.{word, put, Is-tape}
 
 pub word-of-zeros : (k i : ℕ) → word (replicate k 0) i ≡ 0
 word-of-zeros zero i = refl
 word-of-zeros (suc k) zero = refl
 word-of-zeros (suc k) (suc i) = word-of-zeros k i
+
+pub zeros-below : (k : ℕ) → Is-tape (replicate k 0)
+zeros-below zero = tt
+zeros-below (suc k) = (lit< tt, zeros-below k)
 
 pub word-behind : (ws : List ℕ) (k i : ℕ) → length ws ≤ i → word (ws ++ replicate k 0) i ≡ 0
 word-behind [] k i h = word-of-zeros k i
