@@ -1,2 +1,3 @@
--- The theorems across the layers.
+-- The theorems across the layers, and what a run of the board leaves.
 pub mod Joining
+mod Lighting
