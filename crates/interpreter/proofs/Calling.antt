@@ -30,10 +30,15 @@ use Rattle.interpreter.proofs.Unique.{same-stmt}
 use Rattle.interpreter.proofs.Outcomes.{Adds, grew-none, stops-bind}
 use Rattle.interpreter.proofs.Working.{value-of}
 
-proc-some : (ps : List Proc) (f : ℕ) → f < length ps → (p : Proc) × (proc-at ps f ≡ some p)
+pub proc-some : (ps : List Proc) (f : ℕ) → f < length ps → (p : Proc) × (proc-at ps f ≡ some p)
 proc-some [] f h = absurd (omega arith)
 proc-some (p ∷ ps) zero h = (p, refl)
 proc-some (p ∷ ps) (suc f) h = proc-some ps f (omega arith)
+
+pub proc-inside : (ps : List Proc) (f : ℕ) (p : Proc) → proc-at ps f ≡ some p → f < length ps
+proc-inside [] f p q = let no : _≡_ {A = ℕ} 0 1 = cc in absurd (omega arith)
+proc-inside (x ∷ ps) zero p q = omega arith
+proc-inside (x ∷ ps) (suc f) p q = let h = proc-inside ps f p q in omega arith
 
 proc-none : (ps : List Proc) (f : ℕ) → length ps ≤ f → proc-at ps f ≡ none
 proc-none [] f h = refl

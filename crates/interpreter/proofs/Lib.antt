@@ -1,10 +1,12 @@
 -- Lemmas on the interpreter.
-mod Trees
-mod Shapes
-mod Unique
-mod Measuring
-mod Outcomes
-mod Working
-mod Doing
-mod Looping
-mod Calling
+pub mod Trees
+pub mod Shapes
+pub mod Unique
+pub mod Measuring
+pub mod Outcomes
+pub mod Working
+pub mod Doing
+pub mod Looping
+pub mod Calling
+pub mod Preparing
+pub mod Interpreting

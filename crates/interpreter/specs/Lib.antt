@@ -1,3 +1,4 @@
 -- The interpreter: heights from nodes, and what a run over lent memory promises.
 pub mod Heights
 pub mod Running
+pub mod Interpreter

@@ -29,6 +29,15 @@ pub(crate) fn put_at(words: &mut [u16], i: u16, v: u16)
     }
 }
 
+// All words become 0.
+pub(crate) fn clear(words: &mut [u16])
+    ensures { λ _. ⌜ now (words .exit) ≡ replicate (length (now (words .entry))) 0 ⌝ }
+{
+    for k in 0..words.len() {
+        words[k] = 0;
+    }
+}
+
 // The local k of n, which stand first in the frames; 0 past the last.
 pub(crate) fn local(frames: &[u16], n: usize, k: u16) -> u16
     requires { ⌜ n ≤ length (now frames) ⌝ }

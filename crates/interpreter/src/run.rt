@@ -119,7 +119,7 @@ fn eval(
 
 // The call of procedure f with the value v: the test for room, then the body with locals of its own. It takes two of the
 // fuel: one for the call, one for the body.
-fn call(
+pub(crate) fn call(
     nodes: &[Node],
     procs: &[Routine],
     f: u16,

@@ -7,6 +7,15 @@ pub struct Counts {
     pub sent: usize,
 }
 
+// How a run ended: at its end, at a place past the cells, without room for a frame; or its fuel is spent.
+#[derive(Clone, Copy)]
+pub enum Ending {
+    Done,
+    Index,
+    Full,
+    Spent,
+}
+
 // The value of an expression, and the counts after it.
 #[derive(Clone, Copy)]
 pub(crate) struct Value {

@@ -1,0 +1,2 @@
+-- Lemmas on hvlang.
+mod Lending
