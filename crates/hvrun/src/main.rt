@@ -67,7 +67,8 @@ fn run_text(heap: Global, out: &mut impl Write, text: &[u8], tape: &[u16]) -> Re
     match shown {
         Shown::Ran(lit) => print_lamps(out, words.as_slice(), lit),
         Shown::NoProgram => Err("no program".into()),
-        Shown::Limits => Err("limits: the program is larger than the course allows, or names what is not there".into()),
+        Shown::Limits =>
+            Err("limits: the program is larger than the course allows, or names what is not there".into()),
         Shown::NoOut => Err("more words shown than there is room for".into()),
         Shown::BadRoom => Err("the board's buffers have the wrong sizes".into()),
     }
