@@ -44,6 +44,6 @@ check 'an empty text' 1 '' '' 'hvbuild: no program' $hvbuild
 check 'outside the limits' 1 'program 257 0 1 proc 0 skip' '' 'hvbuild: limits' $hvbuild
 check 'a local that is not there' 1 'program 0 0 1 proc 0 setloc 1 num 0' '' 'hvbuild: limits' $hvbuild
 check 'help' 0 '' 'usage: hvbuild...' '' $hvbuild --help
-check 'an unknown option' 1 '' '' 'hvbuild: unknown option' $hvbuild --fast
+check 'an unknown option' 1 '' '' "hvbuild: unknown option (--help lists them): '--fast'" $hvbuild --fast
 check 'a text of as many bytes as there may be' 0 "$five$(printf '%1048546s' '')" '22744...' '' $hvbuild
 check 'a text of too many bytes' 1 "$five$(printf '%1048547s' '')" '' 'more than 1048576 bytes' $hvbuild

@@ -81,6 +81,14 @@ fn print_image(rt: &LibcRuntime, listing: bool) -> Result<(), AnyError> {
     Ok(())
 }
 
+// A refusal that names the option.
+fn unknown(rt: &LibcRuntime, option: &str) -> AnyError {
+    match format!(rt.alloc(), "unknown option (--help lists them): '{option}'") {
+        Ok(text) => text.as_str().into(),
+        Err(e) => e.into(),
+    }
+}
+
 fn hvbuild(rt: &LibcRuntime) -> Result<(), AnyError> {
     let mut listing = false;
     for arg in env::args(rt)?.skip(1) {
@@ -90,7 +98,7 @@ fn hvbuild(rt: &LibcRuntime) -> Result<(), AnyError> {
             return Ok(());
         }
         if option != "--listing" {
-            return Err("unknown option (--help lists them)".into());
+            return Err(unknown(rt, option));
         }
         listing = true;
     }

@@ -69,9 +69,9 @@ fn light(
     }
     match spin(sheet, flops, gates, state, mem, 0, tape, out, cycles, work) {
         Spun::Ran(_, taken, sent, halted) => Some(Lit {
-            sent,
-            taken,
-            halted,
+            sent: sent,
+            taken: taken,
+            halted: halted,
         }),
         Spun::NoOut => None,
         Spun::BadSheet => unreachable(),
