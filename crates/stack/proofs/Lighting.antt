@@ -1,11 +1,10 @@
 -- From the slices that a run of the board leaves to what is seen of it, and from there to the program.
-use mathlib.Core.Path.{_≡_, refl, sym, _∙_, ap, subst}
-use mathlib.Core.List.{List, [], _∷_, _++_}
-use Prim.Native.Nat.{ℕ, zero, suc, _+_, _<_, _≤_}
-use native.Mathlib.Omega.{arith}
-use lib.ListN.{length, take, drop, length-append}
+use mathlib.Core.Path.{_≡_, sym, subst}
+use mathlib.Core.List.{List, [], _∷_}
+use Prim.Native.Nat.{ℕ, zero, suc, _<_}
+use lib.ListN.{take, drop}
 use Rattle.words.specs.Words.{word, Is-tape}
-use Rattle.words.specs.Runs.{Seen, Prefix}
+use Rattle.words.specs.Runs.{Seen}
 use Rattle.circuit.specs.Circuit.{Circuit, Board, seen-board, board-run}
 use Rattle.board.specs.Board.{Left, Stands}
 use Rattle.drawing.specs.Drawing.{Is-machine, course-cycles}
@@ -25,9 +24,6 @@ stands-seen b tape l s =
 pub words-are : (ws : List ℕ) → ((i : ℕ) → word ws i < 65536) → Is-tape ws
 words-are [] h = tt
 words-are (x ∷ ws) h = (h 0, words-are ws (λ i. h (suc i)))
-
-pub prefix-length : (xs ys : List ℕ) → Prefix xs ys → length xs ≤ length ys
-prefix-length xs ys p = omega (arith, length-append xs (p .0), ap length (p .1))
 
 -- an image that was built, on a drawing that is the machine
 pub built-right : (text m tape : List ℕ) (c : Circuit) (cycles : ℕ) (made : Image-made text m) → Is-machine course-cycles c → Is-tape tape → Right-lamps (made .program) tape cycles (board-run c m tape cycles)

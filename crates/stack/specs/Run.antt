@@ -8,7 +8,7 @@ use lib.ListN.{length, take, drop}
 use Rattle.words.specs.Words.{memory-size}
 use Rattle.words.specs.Runs.{Seen}
 use Rattle.circuit.specs.Circuit.{input-signals}
-use Rattle.language.specs.Language.{Program, program-run}
+use Rattle.language.specs.Language.{Program}
 use Rattle.language.specs.Limits.{fits}
 use Rattle.text.specs.Text.{Reads}
 use Rattle.cpu.specs.Signals.{flop-count, gate-count}
@@ -66,7 +66,7 @@ abbrev pub Run-promise : List ℕ → List ℕ → ℕ → Lent → Lent → Sho
 Run-promise text tape cycles before after (Ran l) = Has-room before × Keeps text tape cycles before after l
 Run-promise text tape cycles before after NoProgram = Has-room before × ((g : Program) → Reads text g → ⊥) × (after ≡ before)
 Run-promise text tape cycles before after Limits = Has-room before × ((g : Program) × Reads text g × (fits g ≡ false)) × (after ≡ before)
--- the program puts out more words than there is room for
+-- what the lamps show after these cycles, and it is right for the program, is more than there is room for
 Run-promise text tape cycles before after NoOut = Has-room before
-    × ((g : Program) × Reads text g × T (fits g) × ((n : ℕ) × (length (before .out) < length (program-run g tape n .shown))))
+    × ((g : Program) × Reads text g × T (fits g) × ((seen : Seen) × Right-lamps g tape cycles seen × (length (before .out) < length (seen .shown))))
 Run-promise text tape cycles before after BadRoom = (Has-room before → ⊥) × (after ≡ before)

@@ -1,16 +1,12 @@
 -- The image was built, the drawing is the machine, and the lamps are those of the board: so they are right.
 use borrow.Author.Needs.{needs}
-use mathlib.Core.Path.{_≡_, sym, subst}
-use Prim.Native.Nat.{ℕ, _<_}
-use native.Mathlib.Omega.{arith}
-use lib.ListN.{length}
-use Rattle.words.specs.Words.{word, Is-tape}
+use mathlib.Core.Path.{sym, subst}
+use Rattle.words.specs.Words.{Is-tape}
 use Rattle.words.specs.Runs.{Seen}
 use Rattle.circuit.specs.Circuit.{board-run}
 use Rattle.circuit.specs.Sheet.{drawn}
 use Rattle.stack.specs.Lamps.{Right-lamps}
-use Rattle.stack.specs.Run.{lent, Has-room}
-use Rattle.stack.proofs.Lighting.{words-are, prefix-length, built-right}
+use Rattle.stack.proofs.Lighting.{words-are, built-right}
 use Rattle.stack.proofs.run.Needs as need
 
 pub returns-in-Some : need.returns-in-Some
@@ -38,8 +34,7 @@ returns-in-None c =
     let circuit = drawn (c .in-Sheet .flops) (c .in-Sheet .gates) (c .draw .last .sheet) in
     let words : Is-tape tape = words-are tape (λ i. c .typed .tape i .fits) in
     let right = built-right (c .args .text .now) (c .build .last .image) tape circuit (c .args .cycles) made (c .in-Sheet .ensures tt .is-machine) words in
-    let more = right .nothing-else in
-    let few : length (c .args .out .now) < length (board-run circuit (c .build .last .image) tape (c .args .cycles) .shown) = c .in-None .ensures tt in (
+    let seen = board-run circuit (c .build .last .image) tape (c .args .cycles) in (
       record { image-room = search needs; sheet-long = search needs; state-room = search needs; work-room = search needs },
-      (made .program, made .reads, made .within, (more .0, omega (arith, few, prefix-length _ _ (more .1)))),
+      (made .program, made .reads, made .within, (seen, right, c .in-None .ensures tt)),
     )
