@@ -1,4 +1,6 @@
 // The board as lent slices: any circuit that a sheet holds, spun for any number of cycles from any state.
+#![tactic(auto)]
+
 ghost use Rattle.board.specs.Board.{asked, lent, SpunPost};
 
 mod cycle;

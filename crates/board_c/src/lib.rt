@@ -1,4 +1,6 @@
 // `spin` for callers in C.
+#![tactic(auto)]
+
 ghost use Rattle.board.specs.Board.{asked, lent, SpunPost};
 ghost use Rattle.board.specs.declared.Spun.{Spun as Answer};
 ghost use Rattle.board_c.specs.Coded.{Coded};

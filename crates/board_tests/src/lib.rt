@@ -1,4 +1,6 @@
 // Small circuits on the board, run.
+#![tactic(auto)]
+
 #[cfg(test)]
 mod tests {
     use board::{Power, Spun, power_on, spin};

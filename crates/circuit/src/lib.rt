@@ -1,5 +1,7 @@
 // The definition of a circuit and of its board is in specs/. Each function here asks, by its contract, for the proof of
 // the law of one part; a drawing cites the laws and never looks into a part again.
+#![tactic(auto)]
+
 ghost use Rattle.circuit.specs.PartsLaws.{InverterInverts, NandNands, MuxChooses, InvertIfInverts, ZeroTests, AdderAdds, SubtractSubtracts, LessCompares, PortReads, PortWrites};
 
 // Inverters: a word and its inverse are all ones together.

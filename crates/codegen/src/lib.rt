@@ -1,4 +1,6 @@
 // The code of a program is a definition, in specs/; these functions ask for its theorems.
+#![tactic(auto)]
+
 ghost use Rattle.codegen.specs.Example.{SumCodeIs};
 ghost use Rattle.codegen.specs.Heart.{ExpressionRuns, StatementRuns};
 ghost use Rattle.codegen.specs.Promise.{ImagesRight};

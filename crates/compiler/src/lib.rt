@@ -1,4 +1,6 @@
 // From a program's text to an image of the instruction machine.
+#![tactic(auto)]
+
 mod blocks;
 mod emit;
 mod frames;

@@ -1,5 +1,7 @@
 // The drawing of the instruction machine: what it is stands in specs/, that it is the machine in proofs/; `draw` puts it
 // onto a sheet.
+#![tactic(auto)]
+
 mod control;
 mod frame;
 mod numbers;

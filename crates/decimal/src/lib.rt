@@ -1,4 +1,6 @@
 // Numbers in decimal, as the programs read them from arguments and lines.
+#![tactic(auto)]
+
 ghost use Rattle.std.specs.Prelude.{◌≡◌, ℕ, ◌<◌, MatchOption};
 ghost use Rattle.decimal.specs.Decimal.{Writes};
 

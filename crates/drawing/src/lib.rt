@@ -1,1 +1,3 @@
 // The statement is in specs/; this crate has no code.
+#![tactic(auto)]
+

@@ -1,4 +1,6 @@
 // hvbuild: from the text of a program, on standard input, to the words of its image.
+#![tactic(auto)]
+
 mod listing;
 mod used;
 

@@ -1,4 +1,6 @@
 // hvdraw: draws the machine and prints its sheet, or a table of its parts.
+#![tactic(auto)]
+
 mod rows;
 
 ghost use Rattle.std.specs.Prelude.{◌≡◌, ℕ, ◌^◌, ◌<◌};

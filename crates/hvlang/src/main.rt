@@ -1,4 +1,6 @@
 // hvlang: runs a program of the course language by its definition and prints what it puts out.
+#![tactic(auto)]
+
 mod input;
 mod run;
 

@@ -1,4 +1,6 @@
 // hvmachine: runs an image on the instruction machine and prints what it puts out.
+#![tactic(auto)]
+
 mod input;
 
 ghost use Rattle.std.specs.Prelude.{◌≡◌};

@@ -1,5 +1,7 @@
 // hvread reads a text from standard input and says what it is: a program, with its sizes, or no program, or a program
 // outside the limits. Status 0 for a program; else 1, with the answer on standard error.
+#![tactic(auto)]
+
 use language::nodes::{MOST_NODES, MOST_PROCEDURES, Node, Procedure};
 use std::io::Read;
 use std::{env, io};

@@ -1,4 +1,6 @@
 // hvrun: runs the program of a text on the board, and prints what the lamps show.
+#![tactic(auto)]
+
 mod input;
 
 use anyhow::anyhow;

@@ -1,5 +1,7 @@
 // The course language, run over a program's nodes: 'interpret' is the definition, over lent memory and without an
 // allocator.
+#![tactic(auto)]
+
 mod heights;
 mod lent;
 mod prepare;

@@ -1,4 +1,6 @@
 // The instruction machine as a program: one step, and a run of so many instructions.
+#![tactic(auto)]
+
 mod decode;
 mod execute;
 pub mod instruction;

@@ -1,4 +1,6 @@
 // The promise across the layers: from a text and a tape to the lamps.
+#![tactic(auto)]
+
 mod theorems;
 
 ghost use Rattle.std.specs.Prelude.{◌+◌, ◌≤◌, length};

@@ -1,4 +1,6 @@
 // The text of a program: what it is the writing of, whether that is within the limits, and the program's nodes.
+#![tactic(auto)]
+
 mod bare;
 pub mod cut;
 pub mod judge;

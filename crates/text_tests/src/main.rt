@@ -1,6 +1,8 @@
 // The table of texts: each line of standard input is a text, and standard output says what the text is. In a line,
 // \NNN stands for the byte with that decimal code, and {N:WORDS} for N times WORDS. A line that begins with 'cuts '
 // asks how many of the text's beginnings are programs.
+#![tactic(auto)]
+
 ghost use Rattle.std.specs.Prelude.{◌<◌};
 
 use language::nodes::{MOST_NODES, MOST_PROCEDURES, Node, Procedure};

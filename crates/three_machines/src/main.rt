@@ -1,5 +1,7 @@
 // three_machines: runs the texts of some tables by the language's definition, on the instruction machine and on the board,
 // and compares what the three give with one another and with what the table says.
+#![tactic(auto)]
+
 mod agreement;
 mod cases;
 mod machines;

@@ -1,4 +1,6 @@
 // The five operations on 16-bit words, for all layers that work on words.
+#![tactic(auto)]
+
 ghost use Rattle.std.specs.Prelude.{◌≡◌};
 ghost use Rattle.words.specs.Words.{add16, sub16, nand16, less16, half16};
 

@@ -1,4 +1,6 @@
 // Worked runs of the definitions.
+#![tactic(auto)]
+
 ghost use Rattle.worked.specs.Worked.{WorkedRuns};
 
 // Asks for the table of worked runs.

@@ -20,14 +20,14 @@ returns-then-ne c =
 pub loop-k-preserved : goal.loop-k-preserved
 loop-k-preserved c =
     let s = machine_of c.args.from c.args.mem.now c.args.tape.now c.args.out.now in
-    let r = reached_more s c.loop-k.k c.args.from c.loop-k.p c.in-Some.after c.loop-k.mem c.step-once.new.mem c.args.tape.now c.args.out.now c.loop-k.out c.step-once.new.out
+    let r = reached_more s c.loop-k.k c.args.from c.loop-k.p c.in-Some.after c.loop-k.mem c.step_once.new.mem c.args.tape.now c.args.out.now c.loop-k.out c.step_once.new.out
     c.loop-k.auto.out c.loop-k.invariant c.in-Some.ensures in
     rw add-one r
 
 pub returns-in-None : goal.returns-in-None
 returns-in-None c =
     let s = machine_of c.args.from c.args.mem.now c.args.tape.now c.args.out.now in
-    let r = reached_stuck s c.loop-k.k c.args.from c.loop-k.p c.loop-k.mem c.step-once.new.mem c.args.tape.now c.args.out.now c.loop-k.out c.step-once.new.out
+    let r = reached_stuck s c.loop-k.k c.args.from c.loop-k.p c.loop-k.mem c.step_once.new.mem c.args.tape.now c.args.out.now c.loop-k.out c.step_once.new.out
     c.loop-k.auto.out c.loop-k.invariant c.in-None.ensures in
     (c.if-mem-ne65536.false, c.loop-k-test.true, r.0, r.1)
 

@@ -10,5 +10,5 @@ returns-in-12 c =
     let tape = c.args.tape.now in
     let out = c.args.out.now in
     let is : c.args.i.op ≡ 12 = c.in-12.is in
-    subst (λ (o : ℕ). Executed (act (operation o) (fields c.args.i) (machine_of c.args.p mem tape out)) c.args.p mem mem tape out c.put-out.new.out c.put-out.result)
-    (sym is) (c.put-out.ensures mem tape)
+    subst (λ (o : ℕ). Executed (act (operation o) (fields c.args.i) (machine_of c.args.p mem tape out)) c.args.p mem mem tape out c.put_out.new.out c.put_out.result)
+    (sym is) (c.put_out.ensures mem tape)

@@ -13,9 +13,9 @@ returns-then-p-tape c =
     let p = c.args.p in
     let tape = c.args.tape.now in
     let v = get_or tape p.taken 0 in
-    let set = c.with-register-after.ensures in
+    let set = c.with_register-after.ensures in
     record {
-      machine = λ mem out. took (fields c.args.i) p c.with-register-after.result (p.taken + 1) v mem tape out set c.requires
+      machine = λ mem out. took (fields c.args.i) p c.with_register-after.result (p.taken + 1) v mem tape out set c.requires
           (front_drop tape p.taken c.if-p-tape.true) (rest_drop tape p.taken c.if-p-tape.true);
       within = λ h. omega arith;
       sent = ap (λ (q : Processor). q.sent) set;
@@ -26,12 +26,12 @@ returns-else-p-tape c =
     let p = c.args.p in
     let tape = c.args.tape.now in
     let none = drop_all p.taken tape c.if-p-tape.false in
-    let set = c.with-register.ensures in
+    let set = c.with_register.ensures in
     let same = ap (λ (q : Processor). q.taken) set in
     let left : rest (drop p.taken tape) ≡ drop p.taken tape = ap rest none ∙ sym none in
     record {
-      machine = λ mem out. ap (λ (n : ℕ). machine_of (having_taken c.with-register.result n) mem tape out) same
-          ∙ took (fields c.args.i) p c.with-register.result p.taken 0 mem tape out set c.requires (ap front none) left;
+      machine = λ mem out. ap (λ (n : ℕ). machine_of (having_taken c.with_register.result n) mem tape out) same
+          ∙ took (fields c.args.i) p c.with_register.result p.taken 0 mem tape out set c.requires (ap front none) left;
       within = λ h. omega arith;
       sent = ap (λ (q : Processor). q.sent) set;
     }
