@@ -14,16 +14,16 @@ returns-in-Some c =
     let p = c.args.port in
     let b = standing c.args.state.now c.args.mem.now c.args.tape.now c.args.out.now p in
     let shown : Shown (pin_levels k b) c.evaluate-shown.result =
-    subst (λ (t : ℕ). Shown (map (bit_at (settle k.gates (inputs p.read t b.state))) k.pins) c.evaluate-shown.result) c.front-word-ahead.ensures c.evaluate-shown.ensures.shown in
+    subst (λ (t : ℕ). Shown (map (bit_at (settle k.gates (inputs p.read t b.state))) k.pins) c.evaluate-shown.result) c.front_word-ahead.ensures c.evaluate-shown.ensures.shown in
     let next : c.evaluate-shown.new.state ≡ bytes (map (bit_at (signals k b)) k.next) =
-    subst (λ (t : ℕ). c.evaluate-shown.new.state ≡ bytes (map (bit_at (settle k.gates (inputs p.read t b.state))) k.next)) c.front-word-ahead.ensures c.evaluate-shown.ensures.next in
+    subst (λ (t : ℕ). c.evaluate-shown.new.state ≡ bytes (map (bit_at (settle k.gates (inputs p.read t b.state))) k.next)) c.front_word-ahead.ensures c.evaluate-shown.ensures.next in
     let put = c.in-Some.ensures in
-    let after : Port = record { read = c.access-read.result; taken = c.move-tape-taken.result; sent = c.in-Some.sent; halted = c.evaluate-shown.result.halted } in (
-      ticked k b c.evaluate-shown.new.state c.access-read.new.mem c.args.tape.now c.put-out.new.out after c.evaluate-shown.result
+    let after : Port = record { read = c.access-read.result; taken = c.move_tape-taken.result; sent = c.in-Some.sent; halted = c.evaluate-shown.result.halted } in (
+      ticked k b c.evaluate-shown.new.state c.access-read.new.mem c.args.tape.now c.put_out.new.out after c.evaluate-shown.result
           c.requires.going shown (levels_of _ (map (bit_at (signals k b)) k.next) next)
-          c.access-read.ensures.mem c.access-read.ensures.read c.move-tape-taken.ensures.left put.0 refl,
+          c.access-read.ensures.mem c.access-read.ensures.read c.move_tape-taken.ensures.left put.0 refl,
       clean_of _ (map (bit_at (signals k b)) k.next) next,
-      record { taken = c.move-tape-taken.ensures.within; sent = put.1; left = put.2 },
+      record { taken = c.move_tape-taken.ensures.within; sent = put.1; left = put.2 },
     )
 
 pub returns-in-None : goal.returns-in-None
@@ -33,7 +33,7 @@ returns-in-None c =
     let out = c.args.out.now in
     let b = standing c.args.state.now c.args.mem.now c.args.tape.now out p in
     let shown : Shown (pin_levels k b) c.evaluate-shown.result =
-    subst (λ (t : ℕ). Shown (map (bit_at (settle k.gates (inputs p.read t b.state))) k.pins) c.evaluate-shown.result) c.front-word-ahead.ensures c.evaluate-shown.ensures.shown in
+    subst (λ (t : ℕ). Shown (map (bit_at (settle k.gates (inputs p.read t b.state))) k.pins) c.evaluate-shown.result) c.front_word-ahead.ensures c.evaluate-shown.ensures.shown in
     let full = c.in-None.ensures in
     let l : length out ≤ length (take p.sent out) = omega (arith, full.1, length-take-le p.sent out c.requires.sent) in
     emits k b c.evaluate-shown.result (length out) c.requires.going shown full.0 l

@@ -11,7 +11,7 @@ returns-in-None c =
 pub loop-left-preserved : goal.loop-left-preserved
 loop-left-preserved c =
     let t = c.loop-left in
-    let after = c.one-cycle.new in
+    let after = c.one_cycle.new in
     let l : length t.out ≡ length c.args.out.now = omega arith in
     let k : length after.out ≡ length c.args.out.now = omega arith in
     let went = c.in-Some.ensures in

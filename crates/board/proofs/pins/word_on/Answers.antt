@@ -13,8 +13,8 @@ loop-i-init c =
     let l : length c.args.pins.now ≤ length c.args.pins.now = omega arith in
     sym (ap (λ (t : List ℕ). value (on_signals c.args.work.now t)) (drop_all _ _ l))
 
-pub overflow-mul-word : goal.overflow-mul-word
-overflow-mul-word c =
+pub overflow_mul-word : goal.overflow_mul-word
+overflow_mul-word c =
     let b = word_low c.args.work.now c.args.pins.now c.loop-i.i c.requires.few c.loop-i-test.true in
     let e : c.loop-i.word ≡ value (on_signals c.args.work.now (drop c.loop-i.i c.args.pins.now)) = c.loop-i.invariant in
     let k : c.loop-i.word < 32768 = omega (arith, b, e) in
@@ -25,8 +25,8 @@ bounds-work-pins c =
     let l : c.loop-i.i - 1 < length c.args.pins.now = omega arith in
     below_at _ _ _ c.requires.there l
 
-pub overflow-add-word : goal.overflow-add-word
-overflow-add-word c =
+pub overflow_add-word : goal.overflow_add-word
+overflow_add-word c =
     let b = word_low c.args.work.now c.args.pins.now c.loop-i.i c.requires.few c.loop-i-test.true in
     let e : c.loop-i.word ≡ value (on_signals c.args.work.now (drop c.loop-i.i c.args.pins.now)) = c.loop-i.invariant in
     let k : c.loop-i.word < 32768 = omega (arith, b, e) in

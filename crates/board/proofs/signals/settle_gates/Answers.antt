@@ -8,14 +8,14 @@ eight-preserved c =
     let i = c.turns.i + c.eight.j in
     let there : 2 * i + 1 < length c.args.wires.now = omega arith in
     let room : c.args.base + i < length c.eight.work = omega arith in
-    pass_more c.args.wires.now c.eight.work c.settle-gate.new.work c.args.base i (c.turns.i + (c.eight.j + 1)) _ c.requires.sound there room c.eight.invariant c.settle-gate.ensures (omega arith)
+    pass_more c.args.wires.now c.eight.work c.settle_gate.new.work c.args.base i (c.turns.i + (c.eight.j + 1)) _ c.requires.sound there room c.eight.invariant c.settle_gate.ensures (omega arith)
 
 pub others-preserved : goal.others-preserved
 others-preserved c =
     let i = c.others.i in
     let there : 2 * i + 1 < length c.args.wires.now = omega arith in
     let room : c.args.base + i < length c.others.work = omega arith in (
-      pass_more c.args.wires.now c.others.work c.settle-gate-in-others.new.work c.args.base i (i + 1) _ c.requires.sound there room c.others.invariant.0 c.settle-gate-in-others.ensures (omega arith),
+      pass_more c.args.wires.now c.others.work c.settle_gate-in-others.new.work c.args.base i (i + 1) _ c.requires.sound there room c.others.invariant.0 c.settle_gate-in-others.ensures (omega arith),
       omega arith,
     )
 

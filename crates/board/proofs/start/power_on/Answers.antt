@@ -11,7 +11,7 @@ returns c =
     let f = c.args.flops in
     let sheet = c.args.sheet.now in
     let e : f - 0 ≡ f = omega arith in
-    let laid-is : c.lay-values.new.state ≡ bytes (levels (take f sheet)) = c.lay-values.ensures ∙ ap (λ (n : ℕ). bytes (levels (take n sheet))) e in (
+    let laid-is : c.lay_values.new.state ≡ bytes (levels (take f sheet)) = c.lay_values.ensures ∙ ap (λ (n : ℕ). bytes (levels (take n sheet))) e in (
       (omega arith, omega arith),
       subst (All (λ x. x < 2)) (sym laid-is) (bytes_low (levels (take f sheet))),
       λ k mem tape. same_board (levels_of _ (levels (take f sheet)) laid-is) refl refl refl refl refl,

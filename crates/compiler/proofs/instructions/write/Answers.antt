@@ -5,13 +5,13 @@ use Rattle.compiler.specs.Writing.{meaning, put_all}
 use Rattle.compiler.proofs.Writings.{within_at, write_more, past_length}
 use Rattle.compiler.proofs.instructions.write.Goals as goal
 
-pub word-of-requires : goal.word-of-requires
-word-of-requires c = within_at c.args.code.now c.loop-instruction.instruction-index _ c.requires.widths c.loop-instruction-test.true
+pub word_of-requires : goal.word_of-requires
+word_of-requires c = within_at c.args.code.now c.loop-instruction.instruction-index _ c.requires.widths c.loop-instruction-test.true
 
 pub loop-instruction-preserved : goal.loop-instruction-preserved
 loop-instruction-preserved c = (
   omega (arith, c.loop-instruction.invariant.0),
-  λ rest. c.loop-instruction.invariant.1 rest ∙ write_more c.args.code.now c.loop-instruction.instruction-index _ c.loop-instruction.image c.loop-instruction.place c.word-of.result rest c.loop-instruction-test.true c.word-of.ensures,
+  λ rest. c.loop-instruction.invariant.1 rest ∙ write_more c.args.code.now c.loop-instruction.instruction-index _ c.loop-instruction.image c.loop-instruction.place c.word_of.result rest c.loop-instruction-test.true c.word_of.ensures,
 )
 
 pub returns : goal.returns

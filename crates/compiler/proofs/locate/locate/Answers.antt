@@ -11,9 +11,9 @@ use Rattle.compiler.proofs.locate.locate.Goals as goal
 
 pub returns : goal.returns
 returns c =
-    let l = c.in-ok-sizes.ensures in
+    let l = c.in_ok-sizes.ensures in
     let g = l.program in
-    let n = c.in-ok-sizes.sizes.signs in
+    let n = c.in_ok-sizes.sizes.signs in
     let count : n ≡ length (locate_signs g) = l.sized.signs ∙ sym (count_procs g.procs 4 first_proc) in
     let few : n ≤ 2000 = omega (arith, l.sized.signs, (within_limits g l.within).few_signs) in
     record {
@@ -21,8 +21,8 @@ returns c =
       reads = l.reads;
       within = l.within;
       count = count;
-      words_are = c.sign-words.ensures ∙ ap (put_from c.args.before.now 0) (program_worded c.args.text.now g l.reads) ∙ put_first (λ x. x.word) (locate_signs g) c.args.before.now n count (omega arith);
-      places_are = c.place-signs.ensures g (record { within = l.within; count_is = l.sized.procs; holds = l.holds }) ∙ ap (put_from c.args.places.now 0) (sym (procs_places g.procs 4 first_proc))
+      words_are = c.sign_words.ensures ∙ ap (put_from c.args.before.now 0) (program_worded c.args.text.now g l.reads) ∙ put_first (λ x. x.word) (locate_signs g) c.args.before.now n count (omega arith);
+      places_are = c.place_signs.ensures g (record { within = l.within; count_is = l.sized.procs; holds = l.holds }) ∙ ap (put_from c.args.places.now 0) (sym (procs_places g.procs 4 first_proc))
           ∙ put_first (λ x. x.place) (locate_signs g) c.args.places.now n count (omega arith);
       right = right_signs c.args.text.now g l.reads l.within;
     }

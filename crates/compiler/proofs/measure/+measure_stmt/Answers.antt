@@ -11,101 +11,101 @@ use Rattle.compiler.proofs.Stmted.{measures_simple, measures_then, measures_if, 
 use Rattle.compiler.proofs.measure.+measure_stmt.Goals as goal
 
 -- One statement and then another.
-pub measure-stmt-x-requires : goal.measure-stmt-x-requires
-measure-stmt-x-requires t c =
+pub measure_stmt-x-requires : goal.measure_stmt-x-requires
+measure_stmt-x-requires t c =
     let w = then_work c.args.nodes.now c.args.i c.in-Then.a c.in-Then.b c.args.at c.in-Then.is c.requires in
     (omega (arith, w.first-later, w.inside), w.first-works)
 
-pub measure-stmt-y-requires : goal.measure-stmt-y-requires
-measure-stmt-y-requires t c =
+pub measure_stmt-y-requires : goal.measure_stmt-y-requires
+measure_stmt-y-requires t c =
     let nodes = c.args.nodes.now in
     let w = then_work nodes c.args.i c.in-Then.a c.in-Then.b c.args.at c.in-Then.is c.requires in
-    let m = c.measure-stmt-x.ensures w.first w.first-at in
+    let m = c.measure_stmt-x.ensures w.first w.first-at in
     (omega (arith, w.second-later, w.inside), subst (λ (p : ℕ). StmtWorks nodes c.in-Then.b p) (sym m.0) w.second-works)
 
 pub returns-in-Then : goal.returns-in-Then
-returns-in-Then t c = measures_then c.args.nodes.now c.args.i c.in-Then.a c.in-Then.b c.args.at c.measure-stmt-x.result c.measure-stmt-y.result c.higher.result c.in-Then.is c.measure-stmt-x.ensures c.measure-stmt-y.ensures c.higher.ensures
+returns-in-Then t c = measures_then c.args.nodes.now c.args.i c.in-Then.a c.in-Then.b c.args.at c.measure_stmt-x.result c.measure_stmt-y.result c.higher.result c.in-Then.is c.measure_stmt-x.ensures c.measure_stmt-y.ensures c.higher.ensures
 
 -- A test and two statements.
-pub measure-work-x-requires : goal.measure-work-x-requires
-measure-work-x-requires t c = (if_work c.args.nodes.now c.args.i c.in-If.test c.in-If.first c.in-If.second c.args.at c.in-If.is c.requires).test_works
+pub measure_work-x-requires : goal.measure_work-x-requires
+measure_work-x-requires t c = (if_work c.args.nodes.now c.args.i c.in-If.test c.in-If.first c.in-If.second c.args.at c.in-If.is c.requires).test_works
 
-pub overflow-add-x : goal.overflow-add-x
-overflow-add-x t c =
+pub overflow_add-x : goal.overflow_add-x
+overflow_add-x t c =
     let nodes = c.args.nodes.now in
     let w = if_work nodes c.args.i c.in-If.test c.in-If.first c.in-If.second c.args.at c.in-If.is c.requires in
-    let m = expr_measured nodes c.in-If.test w.test c.args.at c.measure-work-x.result w.test-at c.measure-work-x.ensures in
+    let m = expr_measured nodes c.in-If.test w.test c.args.at c.measure_work-x.result w.test-at c.measure_work-x.ensures in
     let size = (size_stmt w.second (else_place w.test c.args.at)).1 in
     omega (arith, m.0, w.second-room)
 
-pub measure-stmt-y-requires-in-If : goal.measure-stmt-y-requires-in-If
-measure-stmt-y-requires-in-If t c =
+pub measure_stmt-y-requires-in-If : goal.measure_stmt-y-requires-in-If
+measure_stmt-y-requires-in-If t c =
     let nodes = c.args.nodes.now in
     let w = if_work nodes c.args.i c.in-If.test c.in-If.first c.in-If.second c.args.at c.in-If.is c.requires in
-    let m = expr_measured nodes c.in-If.test w.test c.args.at c.measure-work-x.result w.test-at c.measure-work-x.ensures in
-    let place : else_place w.test c.args.at ≡ c.measure-work-x.result.end + go_unless_words = omega (arith, m.0) in
+    let m = expr_measured nodes c.in-If.test w.test c.args.at c.measure_work-x.result w.test-at c.measure_work-x.ensures in
+    let place : else_place w.test c.args.at ≡ c.measure_work-x.result.end + go_unless_words = omega (arith, m.0) in
     (omega (arith, w.second-later, w.inside), subst (λ (p : ℕ). StmtWorks nodes c.in-If.second p) place w.second-works)
 
-pub overflow-add-y : goal.overflow-add-y
-overflow-add-y t c =
+pub overflow_add-y : goal.overflow_add-y
+overflow_add-y t c =
     let nodes = c.args.nodes.now in
     let w = if_work nodes c.args.i c.in-If.test c.in-If.first c.in-If.second c.args.at c.in-If.is c.requires in
-    let m = expr_measured nodes c.in-If.test w.test c.args.at c.measure-work-x.result w.test-at c.measure-work-x.ensures in
-    let place : c.measure-work-x.result.end + go_unless_words ≡ else_place w.test c.args.at = omega (arith, m.0) in
-    let n = (c.measure-stmt-y-in-If.ensures w.second w.second-at).0 ∙ ap (end_of_stmt w.second) place in
+    let m = expr_measured nodes c.in-If.test w.test c.args.at c.measure_work-x.result w.test-at c.measure_work-x.ensures in
+    let place : c.measure_work-x.result.end + go_unless_words ≡ else_place w.test c.args.at = omega (arith, m.0) in
+    let n = (c.measure_stmt-y-in-If.ensures w.second w.second-at).0 ∙ ap (end_of_stmt w.second) place in
     omega (arith, n, w.second-room)
 
-pub measure-stmt-z-requires : goal.measure-stmt-z-requires
-measure-stmt-z-requires t c =
+pub measure_stmt-z-requires : goal.measure_stmt-z-requires
+measure_stmt-z-requires t c =
     let nodes = c.args.nodes.now in
     let w = if_work nodes c.args.i c.in-If.test c.in-If.first c.in-If.second c.args.at c.in-If.is c.requires in
-    let m = expr_measured nodes c.in-If.test w.test c.args.at c.measure-work-x.result w.test-at c.measure-work-x.ensures in
-    let place : c.measure-work-x.result.end + go_unless_words ≡ else_place w.test c.args.at = omega (arith, m.0) in
-    let n = (c.measure-stmt-y-in-If.ensures w.second w.second-at).0 ∙ ap (end_of_stmt w.second) place in
-    let first-place : then_place w.test w.second c.args.at ≡ c.measure-stmt-y-in-If.result.end + go_words = omega (arith, n) in
+    let m = expr_measured nodes c.in-If.test w.test c.args.at c.measure_work-x.result w.test-at c.measure_work-x.ensures in
+    let place : c.measure_work-x.result.end + go_unless_words ≡ else_place w.test c.args.at = omega (arith, m.0) in
+    let n = (c.measure_stmt-y-in-If.ensures w.second w.second-at).0 ∙ ap (end_of_stmt w.second) place in
+    let first-place : then_place w.test w.second c.args.at ≡ c.measure_stmt-y-in-If.result.end + go_words = omega (arith, n) in
     (omega (arith, w.first-later, w.inside), subst (λ (p : ℕ). StmtWorks nodes c.in-If.first p) first-place w.first-works)
 
 pub returns-in-If : goal.returns-in-If
-returns-in-If t c = measures_if c.args.nodes.now c.args.i c.in-If.test c.in-If.first c.in-If.second c.args.at c.measure-work-x.result c.measure-stmt-y-in-If.result c.measure-stmt-z.result c.higher-ways.result c.higher-in-If.result c.in-If.is
-    c.measure-work-x.ensures c.measure-stmt-y-in-If.ensures c.measure-stmt-z.ensures c.higher-ways.ensures c.higher-in-If.ensures
+returns-in-If t c = measures_if c.args.nodes.now c.args.i c.in-If.test c.in-If.first c.in-If.second c.args.at c.measure_work-x.result c.measure_stmt-y-in-If.result c.measure_stmt-z.result c.higher-ways.result c.higher-in-If.result c.in-If.is
+    c.measure_work-x.ensures c.measure_stmt-y-in-If.ensures c.measure_stmt-z.ensures c.higher-ways.ensures c.higher-in-If.ensures
 
 -- A test and a statement, again and again.
-pub measure-work-x-requires-in-While : goal.measure-work-x-requires-in-While
-measure-work-x-requires-in-While t c = (while_work c.args.nodes.now c.args.i c.in-While.test c.in-While.body c.args.at c.in-While.is c.requires).test_works
+pub measure_work-x-requires-in-While : goal.measure_work-x-requires-in-While
+measure_work-x-requires-in-While t c = (while_work c.args.nodes.now c.args.i c.in-While.test c.in-While.body c.args.at c.in-While.is c.requires).test_works
 
-pub overflow-add-x-in-While : goal.overflow-add-x-in-While
-overflow-add-x-in-While t c =
+pub overflow_add-x-in-While : goal.overflow_add-x-in-While
+overflow_add-x-in-While t c =
     let nodes = c.args.nodes.now in
     let w = while_work nodes c.args.i c.in-While.test c.in-While.body c.args.at c.in-While.is c.requires in
-    let m = expr_measured nodes c.in-While.test w.test c.args.at c.measure-work-x-in-While.result w.test-at c.measure-work-x-in-While.ensures in
+    let m = expr_measured nodes c.in-While.test w.test c.args.at c.measure_work-x-in-While.result w.test-at c.measure_work-x-in-While.ensures in
     omega (arith, m.0, w.body-room)
 
-pub measure-stmt-y-requires-in-While : goal.measure-stmt-y-requires-in-While
-measure-stmt-y-requires-in-While t c =
+pub measure_stmt-y-requires-in-While : goal.measure_stmt-y-requires-in-While
+measure_stmt-y-requires-in-While t c =
     let nodes = c.args.nodes.now in
     let w = while_work nodes c.args.i c.in-While.test c.in-While.body c.args.at c.in-While.is c.requires in
-    let m = expr_measured nodes c.in-While.test w.test c.args.at c.measure-work-x-in-While.result w.test-at c.measure-work-x-in-While.ensures in
-    let place : loop_place w.test c.args.at ≡ c.measure-work-x-in-While.result.end + loop_words = omega (arith, m.0) in
+    let m = expr_measured nodes c.in-While.test w.test c.args.at c.measure_work-x-in-While.result w.test-at c.measure_work-x-in-While.ensures in
+    let place : loop_place w.test c.args.at ≡ c.measure_work-x-in-While.result.end + loop_words = omega (arith, m.0) in
     (omega (arith, w.body-later, w.inside), subst (λ (p : ℕ). StmtWorks nodes c.in-While.body p) place w.body-works)
 
-pub overflow-add-result : goal.overflow-add-result
-overflow-add-result t c =
+pub overflow_add-result : goal.overflow_add-result
+overflow_add-result t c =
     let nodes = c.args.nodes.now in
     let w = while_work nodes c.args.i c.in-While.test c.in-While.body c.args.at c.in-While.is c.requires in
-    let m = expr_measured nodes c.in-While.test w.test c.args.at c.measure-work-x-in-While.result w.test-at c.measure-work-x-in-While.ensures in
-    let place : c.measure-work-x-in-While.result.end + loop_words ≡ loop_place w.test c.args.at = omega (arith, m.0) in
-    let n = (c.measure-stmt-y-in-While.ensures w.body w.body-at).0 ∙ ap (end_of_stmt w.body) place in
+    let m = expr_measured nodes c.in-While.test w.test c.args.at c.measure_work-x-in-While.result w.test-at c.measure_work-x-in-While.ensures in
+    let place : c.measure_work-x-in-While.result.end + loop_words ≡ loop_place w.test c.args.at = omega (arith, m.0) in
+    let n = (c.measure_stmt-y-in-While.ensures w.body w.body-at).0 ∙ ap (end_of_stmt w.body) place in
     omega (arith, n, w.room)
 
 pub returns-in-While : goal.returns-in-While
-returns-in-While t c = measures_while c.args.nodes.now c.args.i c.in-While.test c.in-While.body c.args.at c.measure-work-x-in-While.result c.measure-stmt-y-in-While.result c.higher-in-While.result c.in-While.is
-    c.measure-work-x-in-While.ensures c.measure-stmt-y-in-While.ensures c.higher-in-While.ensures
+returns-in-While t c = measures_while c.args.nodes.now c.args.i c.in-While.test c.in-While.body c.args.at c.measure_work-x-in-While.result c.measure_stmt-y-in-While.result c.higher-in-While.result c.in-While.is
+    c.measure_work-x-in-While.ensures c.measure_stmt-y-in-While.ensures c.higher-in-While.ensures
 
 -- The others.
-pub measure-work-requires : goal.measure-work-requires
-measure-work-requires t c =
-    simple_works c.args.nodes.now c.args.i c.args.at (simple (node_at c.args.nodes.now c.args.i) c.in-default.not-Then c.in-default.not-If c.in-default.not-While) c.requires
+pub measure_work-requires : goal.measure_work-requires
+measure_work-requires t c =
+    simple_works c.args.nodes.now c.args.i c.args.at (simple (node_at c.args.nodes.now c.args.i) c.in_default.not-Then c.in_default.not-If c.in_default.not-While) c.requires
 
-pub returns-in-default : goal.returns-in-default
-returns-in-default t c =
-    measures_simple c.args.nodes.now c.args.i c.args.at c.measure-work.result (simple (node_at c.args.nodes.now c.args.i) c.in-default.not-Then c.in-default.not-If c.in-default.not-While) c.measure-work.ensures
+pub returns-in_default : goal.returns-in_default
+returns-in_default t c =
+    measures_simple c.args.nodes.now c.args.i c.args.at c.measure_work.result (simple (node_at c.args.nodes.now c.args.i) c.in_default.not-Then c.in_default.not-If c.in_default.not-While) c.measure_work.ensures

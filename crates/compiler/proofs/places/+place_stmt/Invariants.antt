@@ -2,5 +2,5 @@ use Rattle.std.proofs.Common.{◌-◌}
 use Rattle.compiler.proofs.places.+place_stmt.Given as goal
 
 -- parts stand at later nodes
-abbrev pub decreases-place-stmt : goal.decreases-place-stmt
-decreases-place-stmt l = 2000 - l.i
+abbrev pub decreases-place_stmt : goal.decreases-place_stmt
+decreases-place_stmt l = 2000 - l.i

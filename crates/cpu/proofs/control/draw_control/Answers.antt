@@ -3,4 +3,4 @@ use Rattle.cpu.proofs.control.draw_control.Goals as goal
 
 pub returns : goal.returns
 unfolding control-stage
-returns c = c.put-gates.ensures
+returns c = c.put_gates.ensures

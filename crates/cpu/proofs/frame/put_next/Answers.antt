@@ -12,11 +12,11 @@ pub returns : goal.returns
 unfolding drawing
 returns c =
     let w0 = c.args.sheet.now in
-    let w1 = c.put-words.new.sheet in
+    let w1 = c.put_words.new.sheet in
     let drawn-words : List (List ℕ) =
     c.every.result ∷ (c.every-2.result ∷ (c.every-3.result ∷ (c.every-4.result ∷ (c.every-5.result ∷ (c.every-6.result ∷ (c.every-7.result ∷ (c.every-8.result ∷ (c.every-9.result ∷ (c.port.result ∷ (c.every-10.result ∷ [])))))))))) in
     let words : List ℕ = NEXT-COUNTER ++ (flat NEXT-REGISTERS ++ (PORT ++ NEXT-RESULT)) in
     let same : flat drawn-words ≡ words =
     rw (c.every.ensures, c.every-2.ensures, c.every-3.ensures, c.every-4.ensures, c.every-5.ensures, c.every-6.ensures, c.every-7.ensures, c.every-8.ensures, c.every-9.ensures, c.port.ensures, c.every-10.ensures) refl in
-    let d1 : Drew w0 0 words w1 = drew_by w0 0 (flat drawn-words) words w1 same c.put-words.ensures in
-    drew_behind w0 words w1 176 (FIELD_D ++ (PHASE_3 ∷ PHASE_1 ∷ PHASE_2 ∷ WRITE ∷ LOAD ∷ [])) c.put-numbers.new.sheet d1 refl c.put-numbers.ensures
+    let d1 : Drew w0 0 words w1 = drew_by w0 0 (flat drawn-words) words w1 same c.put_words.ensures in
+    drew_behind w0 words w1 176 (FIELD_D ++ (PHASE_3 ∷ PHASE_1 ∷ PHASE_2 ∷ WRITE ∷ LOAD ∷ [])) c.put_numbers.new.sheet d1 refl c.put_numbers.ensures

@@ -11,9 +11,9 @@ pub returns : goal.returns
 unfolding drawing
 returns c =
     let w0 = c.args.sheet.now in
-    let w1 = c.put-words.new.sheet in
+    let w1 = c.put_words.new.sheet in
     let drawn-words : List (List ℕ) = c.every.result ∷ (c.port.result ∷ []) in
     let words : List ℕ = ADDRESS ++ PORT in
     let same : flat drawn-words ≡ words = rw (c.every.ensures, c.port.ensures) refl in
-    let d1 : Drew w0 0 words w1 = drew_by w0 0 (flat drawn-words) words w1 same c.put-words.ensures in
-    drew_behind w0 words w1 32 (STORE ∷ EMIT ∷ TAKE ∷ HALT_0 ∷ HALT_1 ∷ []) c.put-numbers.new.sheet d1 refl c.put-numbers.ensures
+    let d1 : Drew w0 0 words w1 = drew_by w0 0 (flat drawn-words) words w1 same c.put_words.ensures in
+    drew_behind w0 words w1 32 (STORE ∷ EMIT ∷ TAKE ∷ HALT_0 ∷ HALT_1 ∷ []) c.put_numbers.new.sheet d1 refl c.put_numbers.ensures

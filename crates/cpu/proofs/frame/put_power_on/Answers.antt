@@ -3,4 +3,4 @@ use Rattle.cpu.proofs.frame.put_power_on.Goals as goal
 
 pub returns : goal.returns
 unfolding drawing
-returns c = c.put-numbers.ensures
+returns c = c.put_numbers.ensures

@@ -12,8 +12,8 @@ loop-i-preserved c =
     let x = get_or ws i [] in
     let wide : length x ≡ 16 = c.told-words i c.loop-i-test.true in
     let m : 16 * i + length x ≡ 16 * (i + 1) = omega arith in
-    begun_more c.args.sheet.now 0 (flat ws) c.loop-i.sheet (16 * i) (flat (drop i ws)) x (flat (drop (i + 1) ws)) c.put-numbers.new.sheet (16 * (i + 1))
-    c.loop-i.invariant (ap flat (drop_more ws i [] c.loop-i-test.true)) c.put-numbers.ensures m
+    begun_more c.args.sheet.now 0 (flat ws) c.loop-i.sheet (16 * i) (flat (drop i ws)) x (flat (drop (i + 1) ws)) c.put_numbers.new.sheet (16 * (i + 1))
+    c.loop-i.invariant (ap flat (drop_more ws i [] c.loop-i-test.true)) c.put_numbers.ensures m
 
 pub returns : goal.returns
 returns c =

@@ -16,8 +16,8 @@ loop-i-preserved c =
     let carry = c.loop-i.carry in
     let m : 18 * c.loop-i.i + 18 ≡ 18 * (c.loop-i.i + 1) = omega arith in
     let num : c.loop-i.n + 9 ≡ c.args.first + 9 * (c.loop-i.i + 1) = omega (arith, c.loop-i.invariant.1) in (
-      begun_more c.args.sheet.now 0 (ink (adder-gates first xs ys c.args.carry_in)) c.loop-i.sheet (18 * i) (ink (adder-gates n (drop i xs) (drop i ys) carry)) (full_adder_ink n (get_or xs i 0) (get_or ys i 0) carry) (ink (adder-gates (n + 9) (drop (i + 1) xs) (drop (i + 1) ys) (n + 8))) c.put-gates.new.sheet (18 * (i + 1))
-          c.loop-i.invariant.0 (adder_more n xs ys carry i c.loop-i-test.true c.requires.same) c.put-gates.ensures m,
+      begun_more c.args.sheet.now 0 (ink (adder-gates first xs ys c.args.carry_in)) c.loop-i.sheet (18 * i) (ink (adder-gates n (drop i xs) (drop i ys) carry)) (full_adder_ink n (get_or xs i 0) (get_or ys i 0) carry) (ink (adder-gates (n + 9) (drop (i + 1) xs) (drop (i + 1) ys) (n + 8))) c.put_gates.new.sheet (18 * (i + 1))
+          c.loop-i.invariant.0 (adder_more n xs ys carry i c.loop-i-test.true c.requires.same) c.put_gates.ensures m,
       num,
     )
 

@@ -14,8 +14,8 @@ loop-i-preserved c =
     let n = c.loop-i.n in
     let m : 8 * c.loop-i.i + 8 ≡ 8 * (c.loop-i.i + 1) = omega arith in
     let num : c.loop-i.n + 4 ≡ c.args.first + 4 * (c.loop-i.i + 1) = omega (arith, c.loop-i.invariant.1) in (
-      begun_more c.args.sheet.now 0 (ink (invert-if-gates first c.args.line xs)) c.loop-i.sheet (8 * i) (ink (invert-if-gates n c.args.line (drop i xs))) ((get_or xs i 0) ∷ (c.args.line ∷ ((get_or xs i 0) ∷ (n ∷ (c.args.line ∷ (n ∷ ((n + 1) ∷ ((n + 2) ∷ [])))))))) (ink (invert-if-gates (n + 4) c.args.line (drop (i + 1) xs))) c.put-gates.new.sheet (8 * (i + 1))
-          c.loop-i.invariant.0 (invert_if_more n c.args.line xs i c.loop-i-test.true) c.put-gates.ensures m,
+      begun_more c.args.sheet.now 0 (ink (invert-if-gates first c.args.line xs)) c.loop-i.sheet (8 * i) (ink (invert-if-gates n c.args.line (drop i xs))) ((get_or xs i 0) ∷ (c.args.line ∷ ((get_or xs i 0) ∷ (n ∷ (c.args.line ∷ (n ∷ ((n + 1) ∷ ((n + 2) ∷ [])))))))) (ink (invert-if-gates (n + 4) c.args.line (drop (i + 1) xs))) c.put_gates.new.sheet (8 * (i + 1))
+          c.loop-i.invariant.0 (invert_if_more n c.args.line xs i c.loop-i-test.true) c.put_gates.ensures m,
       num,
     )
 

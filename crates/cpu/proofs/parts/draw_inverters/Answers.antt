@@ -14,8 +14,8 @@ loop-i-preserved c =
     let n = c.args.first + c.loop-i.i in
     let m : 2 * c.loop-i.i + 2 ≡ 2 * (c.loop-i.i + 1) = omega arith in
     let e : n + 1 ≡ first + (i + 1) = omega arith in
-    begun_more c.args.sheet.now 0 (ink (inverter-gates first xs)) c.loop-i.sheet (2 * i) (ink (inverter-gates n (drop i xs))) ((get_or xs i 0) ∷ ((get_or xs i 0) ∷ [])) (ink (inverter-gates (first + (i + 1)) (drop (i + 1) xs))) c.put-gates.new.sheet (2 * (i + 1))
-    c.loop-i.invariant (inverters_more n xs i c.loop-i-test.true ∙ ap (λ k. ((get_or xs i 0) ∷ ((get_or xs i 0) ∷ [])) ++ ink (inverter-gates k (drop (i + 1) xs))) e) c.put-gates.ensures m
+    begun_more c.args.sheet.now 0 (ink (inverter-gates first xs)) c.loop-i.sheet (2 * i) (ink (inverter-gates n (drop i xs))) ((get_or xs i 0) ∷ ((get_or xs i 0) ∷ [])) (ink (inverter-gates (first + (i + 1)) (drop (i + 1) xs))) c.put_gates.new.sheet (2 * (i + 1))
+    c.loop-i.invariant (inverters_more n xs i c.loop-i-test.true ∙ ap (λ k. ((get_or xs i 0) ∷ ((get_or xs i 0) ∷ [])) ++ ink (inverter-gates k (drop (i + 1) xs))) e) c.put_gates.ensures m
 
 pub returns : goal.returns
 returns c =

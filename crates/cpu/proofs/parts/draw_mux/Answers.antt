@@ -15,8 +15,8 @@ loop-i-preserved c =
     let n = c.loop-i.n in
     let m : 6 * c.loop-i.i + 6 ≡ 6 * (c.loop-i.i + 1) = omega arith in
     let num : c.loop-i.n + 3 ≡ c.args.first + 3 * (c.loop-i.i + 1) = omega (arith, c.loop-i.invariant.1) in (
-      begun_more c.args.sheet.now 0 (ink (mux-gates first c.args.select c.args.unselect xs ys)) c.loop-i.sheet (6 * i) (ink (mux-gates n c.args.select c.args.unselect (drop i xs) (drop i ys))) ((get_or xs i 0) ∷ (c.args.select ∷ ((get_or ys i 0) ∷ (c.args.unselect ∷ (n ∷ ((n + 1) ∷ [])))))) (ink (mux-gates (n + 3) c.args.select c.args.unselect (drop (i + 1) xs) (drop (i + 1) ys))) c.put-gates.new.sheet (6 * (i + 1))
-          c.loop-i.invariant.0 (mux_more n c.args.select c.args.unselect xs ys i c.loop-i-test.true c.requires.same) c.put-gates.ensures m,
+      begun_more c.args.sheet.now 0 (ink (mux-gates first c.args.select c.args.unselect xs ys)) c.loop-i.sheet (6 * i) (ink (mux-gates n c.args.select c.args.unselect (drop i xs) (drop i ys))) ((get_or xs i 0) ∷ (c.args.select ∷ ((get_or ys i 0) ∷ (c.args.unselect ∷ (n ∷ ((n + 1) ∷ [])))))) (ink (mux-gates (n + 3) c.args.select c.args.unselect (drop (i + 1) xs) (drop (i + 1) ys))) c.put_gates.new.sheet (6 * (i + 1))
+          c.loop-i.invariant.0 (mux_more n c.args.select c.args.unselect xs ys i c.loop-i-test.true c.requires.same) c.put_gates.ensures m,
       num,
     )
 

@@ -15,8 +15,8 @@ loop-i-preserved c =
     let n = c.args.first + c.loop-i.i in
     let m : 2 * c.loop-i.i + 2 ≡ 2 * (c.loop-i.i + 1) = omega arith in
     let e : n + 1 ≡ first + (i + 1) = omega arith in
-    begun_more c.args.sheet.now 0 (ink (nand-gates first xs ys)) c.loop-i.sheet (2 * i) (ink (nand-gates n (drop i xs) (drop i ys))) ((get_or xs i 0) ∷ ((get_or ys i 0) ∷ [])) (ink (nand-gates (first + (i + 1)) (drop (i + 1) xs) (drop (i + 1) ys))) c.put-gates.new.sheet (2 * (i + 1))
-    c.loop-i.invariant (nands_more n xs ys i c.loop-i-test.true c.requires.same ∙ ap (λ k. ((get_or xs i 0) ∷ ((get_or ys i 0) ∷ [])) ++ ink (nand-gates k (drop (i + 1) xs) (drop (i + 1) ys))) e) c.put-gates.ensures m
+    begun_more c.args.sheet.now 0 (ink (nand-gates first xs ys)) c.loop-i.sheet (2 * i) (ink (nand-gates n (drop i xs) (drop i ys))) ((get_or xs i 0) ∷ ((get_or ys i 0) ∷ [])) (ink (nand-gates (first + (i + 1)) (drop (i + 1) xs) (drop (i + 1) ys))) c.put_gates.new.sheet (2 * (i + 1))
+    c.loop-i.invariant (nands_more n xs ys i c.loop-i-test.true c.requires.same ∙ ap (λ k. ((get_or xs i 0) ∷ ((get_or ys i 0) ∷ [])) ++ ink (nand-gates k (drop (i + 1) xs) (drop (i + 1) ys))) e) c.put_gates.ensures m
 
 pub returns : goal.returns
 returns c =

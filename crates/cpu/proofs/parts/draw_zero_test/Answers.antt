@@ -15,8 +15,8 @@ loop-i-preserved c =
     let carry = c.loop-i.so_far in
     let m : 6 * c.loop-i.i + 6 ≡ 6 * (c.loop-i.i + 1) = omega arith in
     let num : c.loop-i.n + 3 ≡ c.args.first + 3 * (c.loop-i.i + 1) = omega (arith, c.loop-i.invariant.1) in (
-      begun_more c.args.sheet.now 0 (ink (zero-gates first c.args.high xs)) c.loop-i.sheet (6 * i) (ink (zero-gates n carry (drop i xs))) ((get_or xs i 0) ∷ ((get_or xs i 0) ∷ (carry ∷ (n ∷ ((n + 1) ∷ ((n + 1) ∷ [])))))) (ink (zero-gates (n + 3) (n + 2) (drop (i + 1) xs))) c.put-gates.new.sheet (6 * (i + 1))
-          c.loop-i.invariant.0 (zero_more n carry xs i c.loop-i-test.true) c.put-gates.ensures m,
+      begun_more c.args.sheet.now 0 (ink (zero-gates first c.args.high xs)) c.loop-i.sheet (6 * i) (ink (zero-gates n carry (drop i xs))) ((get_or xs i 0) ∷ ((get_or xs i 0) ∷ (carry ∷ (n ∷ ((n + 1) ∷ ((n + 1) ∷ [])))))) (ink (zero-gates (n + 3) (n + 2) (drop (i + 1) xs))) c.put_gates.new.sheet (6 * (i + 1))
+          c.loop-i.invariant.0 (zero_more n carry xs i c.loop-i-test.true) c.put_gates.ensures m,
       num,
     )
 

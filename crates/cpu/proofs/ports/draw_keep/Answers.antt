@@ -25,8 +25,8 @@ loop-i-preserved c =
     let m : 96 * i + length (ink (mux-gates n l.0 l.1 d x)) ≡ 96 * (i + 1) = omega arith in
     let room : 96 * i ≤ length w = omega arith in
     let num : c.loop-i.n + 48 ≡ c.args.first + 48 * (c.loop-i.i + 1) = omega (arith, c.loop-i.invariant.1) in (
-      begun_more c.args.sheet.now 0 (ink (keep-gates c.args.first ls d ws)) w (96 * i) (ink (keep-gates n (drop i ls) d (drop i ws))) (ink (mux-gates n l.0 l.1 d x)) (ink (keep-gates (n + 48) (drop (i + 1) ls) d (drop (i + 1) ws))) (put_mid (96 * i) (length w - 96 * i) w c.draw-mux.new.sheet) (96 * (i + 1))
-          c.loop-i.invariant.0 (keep_more n ls d ws i c.loop-i-test.true c.requires.same long c.told-words) (drew_part w (96 * i) (ink (mux-gates n l.0 l.1 d x)) c.draw-mux.new.sheet room c.draw-mux.ensures) m,
+      begun_more c.args.sheet.now 0 (ink (keep-gates c.args.first ls d ws)) w (96 * i) (ink (keep-gates n (drop i ls) d (drop i ws))) (ink (mux-gates n l.0 l.1 d x)) (ink (keep-gates (n + 48) (drop (i + 1) ls) d (drop (i + 1) ws))) (put_mid (96 * i) (length w - 96 * i) w c.draw_mux.new.sheet) (96 * (i + 1))
+          c.loop-i.invariant.0 (keep_more n ls d ws i c.loop-i-test.true c.requires.same long c.told-words) (drew_part w (96 * i) (ink (mux-gates n l.0 l.1 d x)) c.draw_mux.new.sheet room c.draw_mux.ensures) m,
       num,
     )
 

@@ -9,8 +9,8 @@ use Rattle.cpu.proofs.Loops.{mux_size}
 use Rattle.cpu.proofs.PortLoops.{level_more, level_size, level_none}
 use Rattle.cpu.proofs.ports.draw_level.Goals as goal
 
-pub draw-mux-requires : goal.draw-mux-requires
-draw-mux-requires c =
+pub draw_mux-requires : goal.draw_mux-requires
+draw_mux-requires c =
     let ws = c.args.words.now in
     let j = c.loop-j.j in
     let w = c.loop-j.sheet in
@@ -40,8 +40,8 @@ loop-j-preserved c =
     let m : 96 * j + length (ink (mux-gates n s t y x)) ≡ 96 * (j + 1) = omega arith in
     let room : 96 * j ≤ length w = omega arith in
     let num : c.loop-j.n + 48 ≡ c.args.first + 48 * (c.loop-j.j + 1) = omega (arith, c.loop-j.invariant.1) in (
-      begun_more c.args.sheet.now 0 (ink (level-gates c.args.first s t ws)) w (96 * j) (ink (level-gates n s t (drop (2 * j) ws))) (ink (mux-gates n s t y x)) (ink (level-gates (n + 48) s t (drop (2 * (j + 1)) ws))) (put_mid (96 * j) (length w - 96 * j) w c.draw-mux.new.sheet) (96 * (j + 1))
-          c.loop-j.invariant.0 (level_more n s t ws j next c.told-words) (drew_part w (96 * j) (ink (mux-gates n s t y x)) c.draw-mux.new.sheet room c.draw-mux.ensures) m,
+      begun_more c.args.sheet.now 0 (ink (level-gates c.args.first s t ws)) w (96 * j) (ink (level-gates n s t (drop (2 * j) ws))) (ink (mux-gates n s t y x)) (ink (level-gates (n + 48) s t (drop (2 * (j + 1)) ws))) (put_mid (96 * j) (length w - 96 * j) w c.draw_mux.new.sheet) (96 * (j + 1))
+          c.loop-j.invariant.0 (level_more n s t ws j next c.told-words) (drew_part w (96 * j) (ink (mux-gates n s t y x)) c.draw_mux.new.sheet room c.draw_mux.ensures) m,
       num,
     )
 

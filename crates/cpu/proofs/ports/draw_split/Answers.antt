@@ -16,8 +16,8 @@ loop-i-preserved c =
     let l = (get_or ls i (0, 0)).0 in
     let m : 8 * c.loop-i.i + 8 ≡ 8 * (c.loop-i.i + 1) = omega arith in
     let num : c.loop-i.n + 4 ≡ c.args.first + 4 * (c.loop-i.i + 1) = omega (arith, c.loop-i.invariant.1) in (
-      begun_more c.args.sheet.now 0 (ink (split-gates c.args.first s t ls)) c.loop-i.sheet (8 * i) (ink (split-gates n s t (drop i ls))) (l ∷ (t ∷ (n ∷ (n ∷ (l ∷ (s ∷ ((n + 2) ∷ ((n + 2) ∷ [])))))))) (ink (split-gates (n + 4) s t (drop (i + 1) ls))) c.put-gates.new.sheet (8 * (i + 1))
-          c.loop-i.invariant.0 (split_more n s t ls i c.loop-i-test.true) c.put-gates.ensures m,
+      begun_more c.args.sheet.now 0 (ink (split-gates c.args.first s t ls)) c.loop-i.sheet (8 * i) (ink (split-gates n s t (drop i ls))) (l ∷ (t ∷ (n ∷ (n ∷ (l ∷ (s ∷ ((n + 2) ∷ ((n + 2) ∷ [])))))))) (ink (split-gates (n + 4) s t (drop (i + 1) ls))) c.put_gates.new.sheet (8 * (i + 1))
+          c.loop-i.invariant.0 (split_more n s t ls i c.loop-i-test.true) c.put_gates.ensures m,
       num,
     )
 

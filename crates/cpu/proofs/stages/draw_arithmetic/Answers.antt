@@ -14,28 +14,28 @@ pub returns : goal.returns
 unfolding drawing
 returns c =
     let w0 = c.args.sheet.now in
-    let first : ink (mux-gates first_start FIRST_IS_COUNTER FIRST_IS_OPERAND c.program-counter-counter.result c.operand-operand.result) ≡ ink (mux-gates first_start FIRST_IS_COUNTER FIRST_IS_OPERAND PROGRAM-COUNTER OPERAND) = ap₂ (λ x y. ink (mux-gates first_start FIRST_IS_COUNTER FIRST_IS_OPERAND x y)) c.program-counter-counter.ensures c.operand-operand.ensures in
+    let first : ink (mux-gates first_start FIRST_IS_COUNTER FIRST_IS_OPERAND c.program_counter-counter.result c.operand-operand.result) ≡ ink (mux-gates first_start FIRST_IS_COUNTER FIRST_IS_OPERAND PROGRAM-COUNTER OPERAND) = ap₂ (λ x y. ink (mux-gates first_start FIRST_IS_COUNTER FIRST_IS_OPERAND x y)) c.program_counter-counter.ensures c.operand-operand.ensures in
     let second : ink (mux-gates second_start SECOND_IS_NUMBER SECOND_IS_PORT NUMBER c.port-port.result) ≡ ink (mux-gates second_start SECOND_IS_NUMBER SECOND_IS_PORT NUMBER PORT) = ap (λ x. ink (mux-gates second_start SECOND_IS_NUMBER SECOND_IS_PORT NUMBER x)) c.port-port.ensures in
     let addend : ink (invert-if-gates addend_start SUBTRACT c.every-second.result) ≡ ink (invert-if-gates addend_start SUBTRACT SECOND) = ap (λ x. ink (invert-if-gates addend_start SUBTRACT x)) c.every-second.ensures in
     let adder : ink (adder-gates adder_start c.every-first.result c.every-addend.result CARRY_IN) ≡ ink (adder-gates adder_start FIRST ADDEND CARRY_IN) = ap₂ (λ x y. ink (adder-gates adder_start x y CARRY_IN)) c.every-first.ensures c.every-addend.ensures in
     let nands : ink (nand-gates nand_start c.operand-operand.result c.port-port.result) ≡ ink (nand-gates nand_start OPERAND PORT) = ap₂ (λ x y. ink (nand-gates nand_start x y)) c.operand-operand.ensures c.port-port.ensures in
     let zeros : ink (zero-gates zero_start HIGH c.port-port.result) ≡ ink (zero-gates zero_start HIGH PORT) = ap (λ x. ink (zero-gates zero_start HIGH x)) c.port-port.ensures in
-    let w1 = c.draw-mux.new.sheet in
+    let w1 = c.draw_mux.new.sheet in
     let x1 : List ℕ = ink (mux-gates first_start FIRST_IS_COUNTER FIRST_IS_OPERAND PROGRAM-COUNTER OPERAND) in
-    let d1 : Drew w0 0 x1 w1 = drew_by w0 0 (ink (mux-gates first_start FIRST_IS_COUNTER FIRST_IS_OPERAND c.program-counter-counter.result c.operand-operand.result)) x1 w1 first c.draw-mux.ensures in
-    let w2 = put_mid 96 (length w1 - 96) w1 c.draw-mux-2.new.sheet in
+    let d1 : Drew w0 0 x1 w1 = drew_by w0 0 (ink (mux-gates first_start FIRST_IS_COUNTER FIRST_IS_OPERAND c.program_counter-counter.result c.operand-operand.result)) x1 w1 first c.draw_mux.ensures in
+    let w2 = put_mid 96 (length w1 - 96) w1 c.draw_mux-2.new.sheet in
     let x2 : List ℕ = x1 ++ ink (mux-gates second_start SECOND_IS_NUMBER SECOND_IS_PORT NUMBER PORT) in
-    let d2 : Drew w0 0 x2 w2 = drew_then w0 x1 w1 96 (ink (mux-gates second_start SECOND_IS_NUMBER SECOND_IS_PORT NUMBER c.port-port.result)) (ink (mux-gates second_start SECOND_IS_NUMBER SECOND_IS_PORT NUMBER PORT)) c.draw-mux-2.new.sheet d1 refl second c.draw-mux-2.ensures in
-    let w3 = put_mid 192 (length w2 - 192) w2 c.draw-invert-if.new.sheet in
+    let d2 : Drew w0 0 x2 w2 = drew_then w0 x1 w1 96 (ink (mux-gates second_start SECOND_IS_NUMBER SECOND_IS_PORT NUMBER c.port-port.result)) (ink (mux-gates second_start SECOND_IS_NUMBER SECOND_IS_PORT NUMBER PORT)) c.draw_mux-2.new.sheet d1 refl second c.draw_mux-2.ensures in
+    let w3 = put_mid 192 (length w2 - 192) w2 c.draw_invert_if.new.sheet in
     let x3 : List ℕ = x2 ++ ink (invert-if-gates addend_start SUBTRACT SECOND) in
-    let d3 : Drew w0 0 x3 w3 = drew_then w0 x2 w2 192 (ink (invert-if-gates addend_start SUBTRACT c.every-second.result)) (ink (invert-if-gates addend_start SUBTRACT SECOND)) c.draw-invert-if.new.sheet d2 refl addend c.draw-invert-if.ensures in
-    let w4 = put_mid 320 (length w3 - 320) w3 c.draw-adder.new.sheet in
+    let d3 : Drew w0 0 x3 w3 = drew_then w0 x2 w2 192 (ink (invert-if-gates addend_start SUBTRACT c.every-second.result)) (ink (invert-if-gates addend_start SUBTRACT SECOND)) c.draw_invert_if.new.sheet d2 refl addend c.draw_invert_if.ensures in
+    let w4 = put_mid 320 (length w3 - 320) w3 c.draw_adder.new.sheet in
     let x4 : List ℕ = x3 ++ ink (adder-gates adder_start FIRST ADDEND CARRY_IN) in
-    let d4 : Drew w0 0 x4 w4 = drew_then w0 x3 w3 320 (ink (adder-gates adder_start c.every-first.result c.every-addend.result CARRY_IN)) (ink (adder-gates adder_start FIRST ADDEND CARRY_IN)) c.draw-adder.new.sheet d3 refl adder c.draw-adder.ensures in
-    let w5 = put_mid 608 (length w4 - 608) w4 c.draw-nands.new.sheet in
+    let d4 : Drew w0 0 x4 w4 = drew_then w0 x3 w3 320 (ink (adder-gates adder_start c.every-first.result c.every-addend.result CARRY_IN)) (ink (adder-gates adder_start FIRST ADDEND CARRY_IN)) c.draw_adder.new.sheet d3 refl adder c.draw_adder.ensures in
+    let w5 = put_mid 608 (length w4 - 608) w4 c.draw_nands.new.sheet in
     let x5 : List ℕ = x4 ++ ink (nand-gates nand_start OPERAND PORT) in
-    let d5 : Drew w0 0 x5 w5 = drew_then w0 x4 w4 608 (ink (nand-gates nand_start c.operand-operand.result c.port-port.result)) (ink (nand-gates nand_start OPERAND PORT)) c.draw-nands.new.sheet d4 refl nands c.draw-nands.ensures in
-    let w6 = put_mid 640 (length w5 - 640) w5 c.draw-inverters.new.sheet in
+    let d5 : Drew w0 0 x5 w5 = drew_then w0 x4 w4 608 (ink (nand-gates nand_start c.operand-operand.result c.port-port.result)) (ink (nand-gates nand_start OPERAND PORT)) c.draw_nands.new.sheet d4 refl nands c.draw_nands.ensures in
+    let w6 = put_mid 640 (length w5 - 640) w5 c.draw_inverters.new.sheet in
     let x6 : List ℕ = x5 ++ ink less-stage in
-    let d6 : Drew w0 0 x6 w6 = drew_then w0 x5 w5 640 (ink less-stage) (ink less-stage) c.draw-inverters.new.sheet d5 refl refl c.draw-inverters.ensures in
-    drew_then w0 x6 w6 642 (ink (zero-gates zero_start HIGH c.port-port.result)) (ink (zero-gates zero_start HIGH PORT)) c.draw-zero-test.new.sheet d6 refl zeros c.draw-zero-test.ensures
+    let d6 : Drew w0 0 x6 w6 = drew_then w0 x5 w5 640 (ink less-stage) (ink less-stage) c.draw_inverters.new.sheet d5 refl refl c.draw_inverters.ensures in
+    drew_then w0 x6 w6 642 (ink (zero-gates zero_start HIGH c.port-port.result)) (ink (zero-gates zero_start HIGH PORT)) c.draw_zero_test.new.sheet d6 refl zeros c.draw_zero_test.ensures

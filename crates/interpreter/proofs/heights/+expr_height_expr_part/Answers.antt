@@ -8,28 +8,28 @@ use Rattle.interpreter.proofs.Shapes.{two_of, one_of, no_expr}
 use Rattle.interpreter.proofs.Measuring.{leaf_height, one_height, two_height, part_small}
 use Rattle.interpreter.proofs.heights.+expr_height_expr_part.Goals as goal
 
-pub expr-height-returns-then-i-nodes : goal.expr-height-returns-then-i-nodes
-expr-height-returns-then-i-nodes t c = λ e h. let d = expr_parts c.args.nodes.now c.args.i (node_at c.args.nodes.now c.args.i) e refl h in omega (arith, d.inside)
+pub expr_height-returns-then-i-nodes : goal.expr_height-returns-then-i-nodes
+expr_height-returns-then-i-nodes t c = λ e h. let d = expr_parts c.args.nodes.now c.args.i (node_at c.args.nodes.now c.args.i) e refl h in omega (arith, d.inside)
 
-pub expr-height-returns-in-Num : goal.expr-height-returns-in-Num
-expr-height-returns-in-Num t c =
+pub expr_height-returns-in-Num : goal.expr_height-returns-in-Num
+expr_height-returns-in-Num t c =
     let nodes = c.args.nodes.now in let i = c.args.i in let inside = c.if-i-nodes.false in
     ⊎_elim (λ q. leaf_height nodes i inside (N.Num q.0) (num q.0) (omega arith) q.1 refl refl)
     (⊎_elim (λ q. leaf_height nodes i inside (N.Loc q.0) (loc q.0) (omega arith) q.1 refl refl)
     (λ q. leaf_height nodes i inside (N.Glob q.0) (glob q.0) (omega arith) q.1 refl refl)) c.in-Num.is
 
-pub expr-height-returns-in-default : goal.expr-height-returns-in-default
-expr-height-returns-in-default t c =
-    let r = c.in-default in
+pub expr_height-returns-in_default : goal.expr_height-returns-in_default
+expr_height-returns-in_default t c =
+    let r = c.in_default in
     no_expr c.args.nodes.now c.args.i (node_at c.args.nodes.now c.args.i) refl r.not-Num r.not-Loc r.not-Glob r.not-Cell r.not-Add r.not-Sub r.not-Nand r.not-Less r.not-Half r.not-Call
 
-pub expr-height-returns-in-Add : goal.expr-height-returns-in-Add
-expr-height-returns-in-Add t c =
+pub expr_height-returns-in-Add : goal.expr_height-returns-in-Add
+expr_height-returns-in-Add t c =
     let nodes = c.args.nodes.now in let i = c.args.i in let j = c.in-Add.a in let k = c.in-Add.b in
     subst (λ (r : Option ℕ). ExprHeight nodes i r) (sym c.both.ensures)
-    (two_height nodes i c.if-i-nodes.false j k (two_of nodes i j k c.in-Add.is) c.expr-part-x.result c.expr-part-y.result c.expr-part-x.ensures c.expr-part-y.ensures)
+    (two_height nodes i c.if-i-nodes.false j k (two_of nodes i j k c.in-Add.is) c.expr_part-x.result c.expr_part-y.result c.expr_part-x.ensures c.expr_part-y.ensures)
 
-pub expr-height-returns-in-Cell : goal.expr-height-returns-in-Cell
-expr-height-returns-in-Cell t c =
+pub expr_height-returns-in-Cell : goal.expr_height-returns-in-Cell
+expr_height-returns-in-Cell t c =
     let nodes = c.args.nodes.now in let i = c.args.i in
-    one_height nodes i c.if-i-nodes.false c.in-Cell.a (one_of nodes i c.in-Cell.a c.in-Cell.is) c.expr-part.result c.expr-part.ensures
+    one_height nodes i c.if-i-nodes.false c.in-Cell.a (one_of nodes i c.in-Cell.a c.in-Cell.is) c.expr_part.result c.expr_part.ensures

@@ -8,45 +8,45 @@ use Rattle.interpreter.proofs.Shapes.{uses_of, no_stmt}
 use Rattle.interpreter.proofs.Measuring.{leaf_stmt_height, uses_height, setcell_height, then_height, if_height, while_height}
 use Rattle.interpreter.proofs.heights.+stmt_height_stmt_part.Goals as goal
 
-pub stmt-height-returns-then-i-nodes : goal.stmt-height-returns-then-i-nodes
-stmt-height-returns-then-i-nodes t c = λ s h. let d = stmt_parts c.args.nodes.now c.args.i (node_at c.args.nodes.now c.args.i) s refl h in omega (arith, d.inside)
+pub stmt_height-returns-then-i-nodes : goal.stmt_height-returns-then-i-nodes
+stmt_height-returns-then-i-nodes t c = λ s h. let d = stmt_parts c.args.nodes.now c.args.i (node_at c.args.nodes.now c.args.i) s refl h in omega (arith, d.inside)
 
-pub stmt-height-returns-in-Skip : goal.stmt-height-returns-in-Skip
-stmt-height-returns-in-Skip t c =
+pub stmt_height-returns-in-Skip : goal.stmt_height-returns-in-Skip
+stmt_height-returns-in-Skip t c =
     let nodes = c.args.nodes.now in let i = c.args.i in let inside = c.if-i-nodes.false in
     ⊎_elim (λ q. leaf_stmt_height nodes i inside N.Skip skip (omega arith) q refl refl)
     (λ q. leaf_stmt_height nodes i inside (N.Take q.0) (take q.0) (omega arith) q.1 refl refl) c.in-Skip.is
 
-pub stmt-height-returns-in-default : goal.stmt-height-returns-in-default
-stmt-height-returns-in-default t c =
-    let r = c.in-default in
+pub stmt_height-returns-in_default : goal.stmt_height-returns-in_default
+stmt_height-returns-in_default t c =
+    let r = c.in_default in
     no_stmt c.args.nodes.now c.args.i (node_at c.args.nodes.now c.args.i) refl r.not-Skip r.not-Then r.not-SetLoc r.not-SetGlob r.not-SetCell r.not-If r.not-While r.not-Out r.not-Take
 
-pub stmt-height-returns-in-SetLoc : goal.stmt-height-returns-in-SetLoc
-stmt-height-returns-in-SetLoc t c =
+pub stmt_height-returns-in-SetLoc : goal.stmt_height-returns-in-SetLoc
+stmt_height-returns-in-SetLoc t c =
     let nodes = c.args.nodes.now in let i = c.args.i in
-    uses_height nodes i c.if-i-nodes.false c.in-SetLoc.a (uses_of nodes i c.in-SetLoc.a c.in-SetLoc.is) c.expr-part.result c.expr-part.ensures
+    uses_height nodes i c.if-i-nodes.false c.in-SetLoc.a (uses_of nodes i c.in-SetLoc.a c.in-SetLoc.is) c.expr_part.result c.expr_part.ensures
 
-pub stmt-height-returns-in-SetCell : goal.stmt-height-returns-in-SetCell
-stmt-height-returns-in-SetCell t c =
+pub stmt_height-returns-in-SetCell : goal.stmt_height-returns-in-SetCell
+stmt_height-returns-in-SetCell t c =
     let nodes = c.args.nodes.now in let i = c.args.i in
     subst (λ (r : Option ℕ). StmtHeight nodes i r) (sym c.both.ensures)
-    (setcell_height nodes i c.if-i-nodes.false c.in-SetCell.a c.in-SetCell.b c.in-SetCell.is c.expr-part-x.result c.expr-part-y.result c.expr-part-x.ensures c.expr-part-y.ensures)
+    (setcell_height nodes i c.if-i-nodes.false c.in-SetCell.a c.in-SetCell.b c.in-SetCell.is c.expr_part-x.result c.expr_part-y.result c.expr_part-x.ensures c.expr_part-y.ensures)
 
-pub stmt-height-returns-in-Then : goal.stmt-height-returns-in-Then
-stmt-height-returns-in-Then t c =
+pub stmt_height-returns-in-Then : goal.stmt_height-returns-in-Then
+stmt_height-returns-in-Then t c =
     let nodes = c.args.nodes.now in let i = c.args.i in
     subst (λ (r : Option ℕ). StmtHeight nodes i r) (sym c.higher.ensures)
-    (then_height nodes i c.if-i-nodes.false c.in-Then.a c.in-Then.b c.in-Then.is c.stmt-part-x.result c.stmt-part-y.result c.stmt-part-x.ensures c.stmt-part-y.ensures)
+    (then_height nodes i c.if-i-nodes.false c.in-Then.a c.in-Then.b c.in-Then.is c.stmt_part-x.result c.stmt_part-y.result c.stmt_part-x.ensures c.stmt_part-y.ensures)
 
-pub stmt-height-returns-in-If : goal.stmt-height-returns-in-If
-stmt-height-returns-in-If t c =
-    let nodes = c.args.nodes.now in let i = c.args.i in let x = c.expr-part-x-in-If.result in
+pub stmt_height-returns-in-If : goal.stmt_height-returns-in-If
+stmt_height-returns-in-If t c =
+    let nodes = c.args.nodes.now in let i = c.args.i in let x = c.expr_part-x-in-If.result in
     subst (λ (r : Option ℕ). StmtHeight nodes i r) (sym (c.higher-in-If-2.ensures ∙ ap (λ (r : Option ℕ). higher_of x r) c.higher-in-If.ensures))
-    (if_height nodes i c.if-i-nodes.false c.in-If.a c.in-If.b c.in-If.d c.in-If.is x c.stmt-part-y-in-If.result c.stmt-part-z.result c.expr-part-x-in-If.ensures c.stmt-part-y-in-If.ensures c.stmt-part-z.ensures)
+    (if_height nodes i c.if-i-nodes.false c.in-If.a c.in-If.b c.in-If.d c.in-If.is x c.stmt_part-y-in-If.result c.stmt_part-z.result c.expr_part-x-in-If.ensures c.stmt_part-y-in-If.ensures c.stmt_part-z.ensures)
 
-pub stmt-height-returns-in-While : goal.stmt-height-returns-in-While
-stmt-height-returns-in-While t c =
+pub stmt_height-returns-in-While : goal.stmt_height-returns-in-While
+stmt_height-returns-in-While t c =
     let nodes = c.args.nodes.now in let i = c.args.i in
     subst (λ (r : Option ℕ). StmtHeight nodes i r) (sym c.higher-in-While.ensures)
-    (while_height nodes i c.if-i-nodes.false c.in-While.a c.in-While.b c.in-While.is c.expr-part-x-in-While.result c.stmt-part-y-in-While.result c.expr-part-x-in-While.ensures c.stmt-part-y-in-While.ensures)
+    (while_height nodes i c.if-i-nodes.false c.in-While.a c.in-While.b c.in-While.is c.expr_part-x-in-While.result c.stmt_part-y-in-While.result c.expr_part-x-in-While.ensures c.stmt_part-y-in-While.ensures)

@@ -2,8 +2,8 @@ use Rattle.std.proofs.Common.{◌-◌, ◌*◌}
 use Rattle.interpreter.specs.Heights.{node_names}
 use Rattle.interpreter.proofs.heights.+stmt_height_stmt_part.Given as goal
 
-abbrev pub decreases-stmt-height : goal.decreases-stmt-height
-decreases-stmt-height l = 2 * (node_names - l.i)
+abbrev pub decreases-stmt_height : goal.decreases-stmt_height
+decreases-stmt_height l = 2 * (node_names - l.i)
 
-abbrev pub decreases-stmt-part : goal.decreases-stmt-part
-decreases-stmt-part l = 2 * (node_names - l.i) - 1
+abbrev pub decreases-stmt_part : goal.decreases-stmt_part
+decreases-stmt_part l = 2 * (node_names - l.i) - 1

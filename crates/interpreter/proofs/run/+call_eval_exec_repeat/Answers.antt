@@ -26,18 +26,18 @@ call-returns-then-here-eq1 t c = call_spent c.args.nodes.now c.args.procs.now c.
 pub call-exec-requires : goal.call-exec-requires
 call-exec-requires t c =
     let d = c.requires.measured c.args.f c.if-f-procs.false in
-    (omega (arith, c.decreases), ((d.0, d.1), (c.requires.measured, omega (arith, c.requires.room, c.open-frame.auto.frames))))
+    (omega (arith, c.decreases), ((d.0, d.1), (c.requires.measured, omega (arith, c.requires.room, c.open_frame.auto.frames))))
 
-pub call-returns-in-err-after : goal.call-returns-in-err-after
-call-returns-in-err-after t c =
+pub call-returns-in_err-after : goal.call-returns-in_err-after
+call-returns-in_err-after t c =
     let p = err_from_is_err_and c.from-residual.result c.from-residual.ensures.1 in
-    rw (p.1, p.2) (call_stops c.args.nodes.now c.args.procs.now c.args.tape.now c.args.f c.args.v c.args.here c.args.here.counts (memory c.args.frames.now c.args.globals.now c.args.cells.now c.args.out.now) c.if-f-procs.false c.requires.measured (c.args.here.fuel - 1) (omega arith) c.if-here-size.false c.open-frame.new.frames (c.args.here.fuel - 2) (omega arith) c.open-frame.ensures (memory c.exec.new.frames c.exec.new.globals c.exec.new.cells c.exec.new.out) (memory (put_mid c.args.here.locals (length c.args.frames.now - c.args.here.locals) c.args.frames.now c.exec.new.frames) c.exec.new.globals c.exec.new.cells c.exec.new.out) c.in-err-after.field-0.0 refl c.in-err-after.ensures)
+    rw (p.1, p.2) (call_stops c.args.nodes.now c.args.procs.now c.args.tape.now c.args.f c.args.v c.args.here c.args.here.counts (memory c.args.frames.now c.args.globals.now c.args.cells.now c.args.out.now) c.if-f-procs.false c.requires.measured (c.args.here.fuel - 1) (omega arith) c.if-here-size.false c.open_frame.new.frames (c.args.here.fuel - 2) (omega arith) c.open_frame.ensures (memory c.exec.new.frames c.exec.new.globals c.exec.new.cells c.exec.new.out) (memory (put_mid c.args.here.locals (length c.args.frames.now - c.args.here.locals) c.args.frames.now c.exec.new.frames) c.exec.new.globals c.exec.new.cells c.exec.new.out) c.in_err-after.field-0.0 refl c.in_err-after.ensures)
 
 pub call-returns : goal.call-returns
 call-returns t c =
     let n = c.args.here.locals in let frames = c.args.frames.now in
-    call_gives c.args.nodes.now c.args.procs.now c.args.tape.now c.args.f c.args.v c.args.here c.args.here.counts (memory c.args.frames.now c.args.globals.now c.args.cells.now c.args.out.now) c.if-f-procs.false c.requires.measured (c.args.here.fuel - 1) (omega arith) c.if-here-size.false c.open-frame.new.frames (c.args.here.fuel - 2) (omega arith) c.open-frame.ensures (memory c.exec.new.frames c.exec.new.globals c.exec.new.cells c.exec.new.out) (put_mid c.args.here.locals (length c.args.frames.now - c.args.here.locals) c.args.frames.now c.exec.new.frames) c.in-ok-after.after (get_or c.exec.new.frames 0 0) refl
-    (take-put_mid_below n (length frames - n) frames c.exec.new.frames n (omega arith) (omega (arith, c.requires.room))) c.in-ok-after.ensures
+    call_gives c.args.nodes.now c.args.procs.now c.args.tape.now c.args.f c.args.v c.args.here c.args.here.counts (memory c.args.frames.now c.args.globals.now c.args.cells.now c.args.out.now) c.if-f-procs.false c.requires.measured (c.args.here.fuel - 1) (omega arith) c.if-here-size.false c.open_frame.new.frames (c.args.here.fuel - 2) (omega arith) c.open_frame.ensures (memory c.exec.new.frames c.exec.new.globals c.exec.new.cells c.exec.new.out) (put_mid c.args.here.locals (length c.args.frames.now - c.args.here.locals) c.args.frames.now c.exec.new.frames) c.in_ok-after.after (get_or c.exec.new.frames 0 0) refl
+    (take-put_mid_below n (length frames - n) frames c.exec.new.frames n (omega arith) (omega (arith, c.requires.room))) c.in_ok-after.ensures
 
 pub eval-bounds-nodes-i : goal.eval-bounds-nodes-i
 eval-bounds-nodes-i t c = (expr_parts c.args.nodes.now c.args.i (node_at c.args.nodes.now c.args.i) c.requires.tree.0 refl c.requires.tree.1).inside
@@ -47,53 +47,53 @@ eval-eval-requires t c =
     let p = lead_cell c.args.nodes.now c.args.procs.now c.args.tape.now c.args.here c.args.i c.in-Cell.a c.in-Cell.is c.requires.tree.0 c.requires.tree.1 in
     (omega (arith, p.later, c.decreases), ((p.part, p.at), (c.requires.measured, c.requires.room)))
 
-pub eval-returns-in-err-place : goal.eval-returns-in-err-place
-eval-returns-in-err-place t c =
+pub eval-returns-in_err-place : goal.eval-returns-in_err-place
+eval-returns-in_err-place t c =
     let p = err_from_is_err_and c.from-residual.result c.from-residual.ensures.1 in
-    rw (p.1, p.2) (first_stops c.args.nodes.now c.args.procs.now c.args.tape.now c.args.here c.args.i c.in-Cell.a (lead_cell c.args.nodes.now c.args.procs.now c.args.tape.now c.args.here c.args.i c.in-Cell.a c.in-Cell.is) c.args.here.counts (memory c.args.frames.now c.args.globals.now c.args.cells.now c.args.out.now) (memory c.eval.new.frames c.eval.new.globals c.eval.new.cells c.eval.new.out) c.in-err-place.field-0.0 c.in-err-place.ensures)
+    rw (p.1, p.2) (first_stops c.args.nodes.now c.args.procs.now c.args.tape.now c.args.here c.args.i c.in-Cell.a (lead_cell c.args.nodes.now c.args.procs.now c.args.tape.now c.args.here c.args.i c.in-Cell.a c.in-Cell.is) c.args.here.counts (memory c.args.frames.now c.args.globals.now c.args.cells.now c.args.out.now) (memory c.eval.new.frames c.eval.new.globals c.eval.new.cells c.eval.new.out) c.in_err-place.field-0.0 c.in_err-place.ensures)
 
 pub eval-returns-then-place-cells : goal.eval-returns-then-place-cells
-eval-returns-then-place-cells t c = cell_index c.args.nodes.now c.args.procs.now c.args.tape.now c.args.here c.args.i c.in-Cell.a c.in-Cell.is c.args.here.counts (memory c.args.frames.now c.args.globals.now c.args.cells.now c.args.out.now) (memory c.eval.new.frames c.eval.new.globals c.eval.new.cells c.eval.new.out) c.in-ok-place.place c.if-place-cells.true c.in-ok-place.ensures
+eval-returns-then-place-cells t c = cell_index c.args.nodes.now c.args.procs.now c.args.tape.now c.args.here c.args.i c.in-Cell.a c.in-Cell.is c.args.here.counts (memory c.args.frames.now c.args.globals.now c.args.cells.now c.args.out.now) (memory c.eval.new.frames c.eval.new.globals c.eval.new.cells c.eval.new.out) c.in_ok-place.place c.if-place-cells.true c.in_ok-place.ensures
 
 pub eval-eval-requires-in-Half : goal.eval-eval-requires-in-Half
 eval-eval-requires-in-Half t c =
     let p = lead_half c.args.nodes.now c.args.procs.now c.args.tape.now c.args.here c.args.i c.in-Half.a c.in-Half.is c.requires.tree.0 c.requires.tree.1 in
     (omega (arith, p.later, c.decreases), ((p.part, p.at), (c.requires.measured, c.requires.room)))
 
-pub eval-returns-in-err-whole : goal.eval-returns-in-err-whole
-eval-returns-in-err-whole t c =
-    let p = err_from_is_err_and c.from-residual-in-err-whole.result c.from-residual-in-err-whole.ensures.1 in
-    rw (p.1, p.2) (first_stops c.args.nodes.now c.args.procs.now c.args.tape.now c.args.here c.args.i c.in-Half.a (lead_half c.args.nodes.now c.args.procs.now c.args.tape.now c.args.here c.args.i c.in-Half.a c.in-Half.is) c.args.here.counts (memory c.args.frames.now c.args.globals.now c.args.cells.now c.args.out.now) (memory c.eval-in-Half.new.frames c.eval-in-Half.new.globals c.eval-in-Half.new.cells c.eval-in-Half.new.out) c.in-err-whole.field-0.0 c.in-err-whole.ensures)
+pub eval-returns-in_err-whole : goal.eval-returns-in_err-whole
+eval-returns-in_err-whole t c =
+    let p = err_from_is_err_and c.from-residual-in_err-whole.result c.from-residual-in_err-whole.ensures.1 in
+    rw (p.1, p.2) (first_stops c.args.nodes.now c.args.procs.now c.args.tape.now c.args.here c.args.i c.in-Half.a (lead_half c.args.nodes.now c.args.procs.now c.args.tape.now c.args.here c.args.i c.in-Half.a c.in-Half.is) c.args.here.counts (memory c.args.frames.now c.args.globals.now c.args.cells.now c.args.out.now) (memory c.eval-in-Half.new.frames c.eval-in-Half.new.globals c.eval-in-Half.new.cells c.eval-in-Half.new.out) c.in_err-whole.field-0.0 c.in_err-whole.ensures)
 
 pub eval-eval-requires-in-Call : goal.eval-eval-requires-in-Call
 eval-eval-requires-in-Call t c =
     let p = lead_call c.args.nodes.now c.args.procs.now c.args.tape.now c.args.here c.args.i c.in-Call.f c.in-Call.a c.in-Call.is c.requires.tree.0 c.requires.tree.1 in
     (omega (arith, p.later, c.decreases), ((p.part, p.at), (c.requires.measured, c.requires.room)))
 
-pub eval-returns-in-err-argument : goal.eval-returns-in-err-argument
-eval-returns-in-err-argument t c =
-    let p = err_from_is_err_and c.from-residual-in-err-argument.result c.from-residual-in-err-argument.ensures.1 in
-    rw (p.1, p.2) (first_stops c.args.nodes.now c.args.procs.now c.args.tape.now c.args.here c.args.i c.in-Call.a (lead_call c.args.nodes.now c.args.procs.now c.args.tape.now c.args.here c.args.i c.in-Call.f c.in-Call.a c.in-Call.is) c.args.here.counts (memory c.args.frames.now c.args.globals.now c.args.cells.now c.args.out.now) (memory c.eval-in-Call.new.frames c.eval-in-Call.new.globals c.eval-in-Call.new.cells c.eval-in-Call.new.out) c.in-err-argument.field-0.0 c.in-err-argument.ensures)
+pub eval-returns-in_err-argument : goal.eval-returns-in_err-argument
+eval-returns-in_err-argument t c =
+    let p = err_from_is_err_and c.from-residual-in_err-argument.result c.from-residual-in_err-argument.ensures.1 in
+    rw (p.1, p.2) (first_stops c.args.nodes.now c.args.procs.now c.args.tape.now c.args.here c.args.i c.in-Call.a (lead_call c.args.nodes.now c.args.procs.now c.args.tape.now c.args.here c.args.i c.in-Call.f c.in-Call.a c.in-Call.is) c.args.here.counts (memory c.args.frames.now c.args.globals.now c.args.cells.now c.args.out.now) (memory c.eval-in-Call.new.frames c.eval-in-Call.new.globals c.eval-in-Call.new.cells c.eval-in-Call.new.out) c.in_err-argument.field-0.0 c.in_err-argument.ensures)
 
 pub eval-eval-requires-in-Add : goal.eval-eval-requires-in-Add
 eval-eval-requires-in-Add t c =
     let p = lead_two c.args.nodes.now c.args.procs.now c.args.tape.now c.args.here c.args.i c.in-Add.a c.in-Add.b (two_of c.args.nodes.now c.args.i c.in-Add.a c.in-Add.b c.in-Add.is) c.requires.tree.0 c.requires.tree.1 in
     (omega (arith, p.later, c.decreases), ((p.part, p.at), (c.requires.measured, c.requires.room)))
 
-pub eval-returns-in-err-x : goal.eval-returns-in-err-x
-eval-returns-in-err-x t c =
-    let p = err_from_is_err_and c.from-residual-in-err-x.result c.from-residual-in-err-x.ensures.1 in
-    rw (p.1, p.2) (first_stops c.args.nodes.now c.args.procs.now c.args.tape.now c.args.here c.args.i c.in-Add.a (lead_two c.args.nodes.now c.args.procs.now c.args.tape.now c.args.here c.args.i c.in-Add.a c.in-Add.b (two_of c.args.nodes.now c.args.i c.in-Add.a c.in-Add.b c.in-Add.is)) c.args.here.counts (memory c.args.frames.now c.args.globals.now c.args.cells.now c.args.out.now) (memory c.eval-in-Add.new.frames c.eval-in-Add.new.globals c.eval-in-Add.new.cells c.eval-in-Add.new.out) c.in-err-x.field-0.0 c.in-err-x.ensures)
+pub eval-returns-in_err-x : goal.eval-returns-in_err-x
+eval-returns-in_err-x t c =
+    let p = err_from_is_err_and c.from-residual-in_err-x.result c.from-residual-in_err-x.ensures.1 in
+    rw (p.1, p.2) (first_stops c.args.nodes.now c.args.procs.now c.args.tape.now c.args.here c.args.i c.in-Add.a (lead_two c.args.nodes.now c.args.procs.now c.args.tape.now c.args.here c.args.i c.in-Add.a c.in-Add.b (two_of c.args.nodes.now c.args.i c.in-Add.a c.in-Add.b c.in-Add.is)) c.args.here.counts (memory c.args.frames.now c.args.globals.now c.args.cells.now c.args.out.now) (memory c.eval-in-Add.new.frames c.eval-in-Add.new.globals c.eval-in-Add.new.cells c.eval-in-Add.new.out) c.in_err-x.field-0.0 c.in_err-x.ensures)
 
 pub eval-eval-requires-in-Add-2 : goal.eval-eval-requires-in-Add-2
 eval-eval-requires-in-Add-2 t c =
     let p = second_two c.args.nodes.now c.args.procs.now c.args.tape.now c.args.here c.args.i c.in-Add.a c.in-Add.b (two_of c.args.nodes.now c.args.i c.in-Add.a c.in-Add.b c.in-Add.is) c.requires.tree.0 c.requires.tree.1 in
     (omega (arith, p.1, c.decreases), ((p.0, p.2), (c.requires.measured, omega (arith, c.requires.room, c.eval-in-Add.auto.frames))))
 
-pub eval-returns-in-err-y : goal.eval-returns-in-err-y
-eval-returns-in-err-y t c =
-    let p = err_from_is_err_and c.from-residual-in-err-y.result c.from-residual-in-err-y.ensures.1 in
-    rw (p.1, p.2) (two_second_stops c.args.nodes.now c.args.procs.now c.args.tape.now c.args.here c.args.i c.in-Add.a c.in-Add.b (two_of c.args.nodes.now c.args.i c.in-Add.a c.in-Add.b c.in-Add.is) c.args.here.counts (memory c.args.frames.now c.args.globals.now c.args.cells.now c.args.out.now) (memory c.eval-in-Add.new.frames c.eval-in-Add.new.globals c.eval-in-Add.new.cells c.eval-in-Add.new.out) (memory c.eval-in-Add-2.new.frames c.eval-in-Add-2.new.globals c.eval-in-Add-2.new.cells c.eval-in-Add-2.new.out) c.in-ok-x.x c.in-err-y.field-0.0 c.in-ok-x.ensures c.in-err-y.ensures)
+pub eval-returns-in_err-y : goal.eval-returns-in_err-y
+eval-returns-in_err-y t c =
+    let p = err_from_is_err_and c.from-residual-in_err-y.result c.from-residual-in_err-y.ensures.1 in
+    rw (p.1, p.2) (two_second_stops c.args.nodes.now c.args.procs.now c.args.tape.now c.args.here c.args.i c.in-Add.a c.in-Add.b (two_of c.args.nodes.now c.args.i c.in-Add.a c.in-Add.b c.in-Add.is) c.args.here.counts (memory c.args.frames.now c.args.globals.now c.args.cells.now c.args.out.now) (memory c.eval-in-Add.new.frames c.eval-in-Add.new.globals c.eval-in-Add.new.cells c.eval-in-Add.new.out) (memory c.eval-in-Add-2.new.frames c.eval-in-Add-2.new.globals c.eval-in-Add-2.new.cells c.eval-in-Add-2.new.out) c.in_ok-x.x c.in_err-y.field-0.0 c.in_ok-x.ensures c.in_err-y.ensures)
 
 pub eval-returns-in-Num : goal.eval-returns-in-Num
 eval-returns-in-Num t c = num_value c.args.nodes.now c.args.procs.now c.args.tape.now c.args.here c.args.i c.in-Num.n c.args.here.counts (memory c.args.frames.now c.args.globals.now c.args.cells.now c.args.out.now) c.in-Num.is
@@ -102,23 +102,23 @@ pub eval-returns-in-Loc : goal.eval-returns-in-Loc
 eval-returns-in-Loc t c = loc_value c.args.nodes.now c.args.procs.now c.args.tape.now c.args.here c.args.i c.in-Loc.k c.local.result c.args.here.counts (memory c.args.frames.now c.args.globals.now c.args.cells.now c.args.out.now) c.in-Loc.is c.local.ensures
 
 pub eval-returns-in-Glob : goal.eval-returns-in-Glob
-eval-returns-in-Glob t c = glob_value c.args.nodes.now c.args.procs.now c.args.tape.now c.args.here c.args.i c.in-Glob.k c.word-at.result c.args.here.counts (memory c.args.frames.now c.args.globals.now c.args.cells.now c.args.out.now) c.in-Glob.is c.word-at.ensures
+eval-returns-in-Glob t c = glob_value c.args.nodes.now c.args.procs.now c.args.tape.now c.args.here c.args.i c.in-Glob.k c.word_at.result c.args.here.counts (memory c.args.frames.now c.args.globals.now c.args.cells.now c.args.out.now) c.in-Glob.is c.word_at.ensures
 
 pub eval-returns-else-place-cells : goal.eval-returns-else-place-cells
-eval-returns-else-place-cells t c = cell_value c.args.nodes.now c.args.procs.now c.args.tape.now c.args.here c.args.i c.in-Cell.a c.in-Cell.is c.args.here.counts (memory c.args.frames.now c.args.globals.now c.args.cells.now c.args.out.now) (memory c.eval.new.frames c.eval.new.globals c.eval.new.cells c.eval.new.out) c.in-ok-place.place c.if-place-cells.false c.in-ok-place.ensures
+eval-returns-else-place-cells t c = cell_value c.args.nodes.now c.args.procs.now c.args.tape.now c.args.here c.args.i c.in-Cell.a c.in-Cell.is c.args.here.counts (memory c.args.frames.now c.args.globals.now c.args.cells.now c.args.out.now) (memory c.eval.new.frames c.eval.new.globals c.eval.new.cells c.eval.new.out) c.in_ok-place.place c.if-place-cells.false c.in_ok-place.ensures
 
-pub eval-returns-in-ok-whole : goal.eval-returns-in-ok-whole
-eval-returns-in-ok-whole t c = half_value c.args.nodes.now c.args.procs.now c.args.tape.now c.args.here c.args.i c.in-Half.a c.in-Half.is c.args.here.counts (memory c.args.frames.now c.args.globals.now c.args.cells.now c.args.out.now) (memory c.eval-in-Half.new.frames c.eval-in-Half.new.globals c.eval-in-Half.new.cells c.eval-in-Half.new.out) c.in-ok-whole.whole c.half.result c.half.ensures c.in-ok-whole.ensures
+pub eval-returns-in_ok-whole : goal.eval-returns-in_ok-whole
+eval-returns-in_ok-whole t c = half_value c.args.nodes.now c.args.procs.now c.args.tape.now c.args.here c.args.i c.in-Half.a c.in-Half.is c.args.here.counts (memory c.args.frames.now c.args.globals.now c.args.cells.now c.args.out.now) (memory c.eval-in-Half.new.frames c.eval-in-Half.new.globals c.eval-in-Half.new.cells c.eval-in-Half.new.out) c.in_ok-whole.whole c.half.result c.half.ensures c.in_ok-whole.ensures
 
-pub eval-returns-in-ok-argument : goal.eval-returns-in-ok-argument
-eval-returns-in-ok-argument t c = call_value c.args.nodes.now c.args.procs.now c.args.tape.now c.args.here c.args.i c.in-Call.f c.in-Call.a c.in-Call.is c.args.here.counts (memory c.args.frames.now c.args.globals.now c.args.cells.now c.args.out.now) (memory c.eval-in-Call.new.frames c.eval-in-Call.new.globals c.eval-in-Call.new.cells c.eval-in-Call.new.out) (memory c.call.new.frames c.call.new.globals c.call.new.cells c.call.new.out) c.in-ok-argument.argument c.call.result c.in-ok-argument.ensures c.call.ensures
+pub eval-returns-in_ok-argument : goal.eval-returns-in_ok-argument
+eval-returns-in_ok-argument t c = call_value c.args.nodes.now c.args.procs.now c.args.tape.now c.args.here c.args.i c.in-Call.f c.in-Call.a c.in-Call.is c.args.here.counts (memory c.args.frames.now c.args.globals.now c.args.cells.now c.args.out.now) (memory c.eval-in-Call.new.frames c.eval-in-Call.new.globals c.eval-in-Call.new.cells c.eval-in-Call.new.out) (memory c.call.new.frames c.call.new.globals c.call.new.cells c.call.new.out) c.in_ok-argument.argument c.call.result c.in_ok-argument.ensures c.call.ensures
 
-pub eval-returns-in-default : goal.eval-returns-in-default
-eval-returns-in-default t c = λ g e held at. let r = c.in-default in absurd (no_expr c.args.nodes.now c.args.i (node_at c.args.nodes.now c.args.i) refl r.not-Num r.not-Loc r.not-Glob r.not-Cell r.not-Add r.not-Sub r.not-Nand r.not-Less r.not-Half r.not-Call e at)
+pub eval-returns-in_default : goal.eval-returns-in_default
+eval-returns-in_default t c = λ g e held at. let r = c.in_default in absurd (no_expr c.args.nodes.now c.args.i (node_at c.args.nodes.now c.args.i) refl r.not-Num r.not-Loc r.not-Glob r.not-Cell r.not-Add r.not-Sub r.not-Nand r.not-Less r.not-Half r.not-Call e at)
 
-pub eval-returns-in-ok-y : goal.eval-returns-in-ok-y
-eval-returns-in-ok-y t c = two_value c.args.nodes.now c.args.procs.now c.args.tape.now c.args.here c.args.i c.in-Add.a c.in-Add.b (two_of c.args.nodes.now c.args.i c.in-Add.a c.in-Add.b c.in-Add.is) c.args.here.counts (memory c.args.frames.now c.args.globals.now c.args.cells.now c.args.out.now) (memory c.eval-in-Add.new.frames c.eval-in-Add.new.globals c.eval-in-Add.new.cells c.eval-in-Add.new.out) (memory c.eval-in-Add-2.new.frames c.eval-in-Add-2.new.globals c.eval-in-Add-2.new.cells c.eval-in-Add-2.new.out) c.in-ok-x.x c.in-ok-y.y c.combine.result
-    (c.combine.ensures ∙ combines c.args.nodes.now c.args.i c.in-Add.a c.in-Add.b c.in-Add.is c.in-ok-x.x.word c.in-ok-y.y.word) c.in-ok-x.ensures c.in-ok-y.ensures
+pub eval-returns-in_ok-y : goal.eval-returns-in_ok-y
+eval-returns-in_ok-y t c = two_value c.args.nodes.now c.args.procs.now c.args.tape.now c.args.here c.args.i c.in-Add.a c.in-Add.b (two_of c.args.nodes.now c.args.i c.in-Add.a c.in-Add.b c.in-Add.is) c.args.here.counts (memory c.args.frames.now c.args.globals.now c.args.cells.now c.args.out.now) (memory c.eval-in-Add.new.frames c.eval-in-Add.new.globals c.eval-in-Add.new.cells c.eval-in-Add.new.out) (memory c.eval-in-Add-2.new.frames c.eval-in-Add-2.new.globals c.eval-in-Add-2.new.cells c.eval-in-Add-2.new.out) c.in_ok-x.x c.in_ok-y.y c.combine.result
+    (c.combine.ensures ∙ combines c.args.nodes.now c.args.i c.in-Add.a c.in-Add.b c.in-Add.is c.in_ok-x.x.word c.in_ok-y.y.word) c.in_ok-x.ensures c.in_ok-y.ensures
 
 pub exec-bounds-nodes-i : goal.exec-bounds-nodes-i
 exec-bounds-nodes-i t c = (stmt_parts c.args.nodes.now c.args.i (node_at c.args.nodes.now c.args.i) c.requires.tree.0 refl c.requires.tree.1).inside
@@ -128,10 +128,10 @@ exec-exec-requires t c =
     let p = then_parts c.args.nodes.now c.args.procs.now c.args.tape.now c.args.here c.args.i c.in-Then.a c.in-Then.b c.in-Then.is c.requires.tree.0 c.requires.tree.1 in
     (omega (arith, p.3, c.decreases), ((p.0, p.5), (c.requires.measured, c.requires.room)))
 
-pub exec-returns-in-err-first : goal.exec-returns-in-err-first
-exec-returns-in-err-first t c =
+pub exec-returns-in_err-first : goal.exec-returns-in_err-first
+exec-returns-in_err-first t c =
     let p = err_from_is_err_and c.from-residual.result c.from-residual.ensures.1 in
-    rw (p.1, p.2) (then_stops c.args.nodes.now c.args.procs.now c.args.tape.now c.args.here c.args.i c.in-Then.a c.in-Then.b c.in-Then.is c.args.here.counts (memory c.args.frames.now c.args.globals.now c.args.cells.now c.args.out.now) (memory c.exec.new.frames c.exec.new.globals c.exec.new.cells c.exec.new.out) c.in-err-first.field-0.0 c.in-err-first.ensures)
+    rw (p.1, p.2) (then_stops c.args.nodes.now c.args.procs.now c.args.tape.now c.args.here c.args.i c.in-Then.a c.in-Then.b c.in-Then.is c.args.here.counts (memory c.args.frames.now c.args.globals.now c.args.cells.now c.args.out.now) (memory c.exec.new.frames c.exec.new.globals c.exec.new.cells c.exec.new.out) c.in_err-first.field-0.0 c.in_err-first.ensures)
 
 pub exec-exec-requires-in-Then : goal.exec-exec-requires-in-Then
 exec-exec-requires-in-Then t c =
@@ -143,53 +143,53 @@ exec-eval-requires t c =
     let p = begin_setloc c.args.nodes.now c.args.procs.now c.args.tape.now c.args.here c.args.i c.in-SetLoc.k c.in-SetLoc.a c.in-SetLoc.is c.requires.tree.0 c.requires.tree.1 in
     (omega (arith, p.later, c.decreases), ((p.part, p.at), (c.requires.measured, c.requires.room)))
 
-pub exec-returns-in-err-x : goal.exec-returns-in-err-x
-exec-returns-in-err-x t c =
-    let p = err_from_is_err_and c.from-residual-in-err-x.result c.from-residual-in-err-x.ensures.1 in
-    rw (p.1, p.2) (begin_stops c.args.nodes.now c.args.procs.now c.args.tape.now c.args.here c.args.i c.in-SetLoc.a (begin_setloc c.args.nodes.now c.args.procs.now c.args.tape.now c.args.here c.args.i c.in-SetLoc.k c.in-SetLoc.a c.in-SetLoc.is) c.args.here.counts (memory c.args.frames.now c.args.globals.now c.args.cells.now c.args.out.now) (memory c.eval.new.frames c.eval.new.globals c.eval.new.cells c.eval.new.out) c.in-err-x.field-0.0 c.in-err-x.ensures)
+pub exec-returns-in_err-x : goal.exec-returns-in_err-x
+exec-returns-in_err-x t c =
+    let p = err_from_is_err_and c.from-residual-in_err-x.result c.from-residual-in_err-x.ensures.1 in
+    rw (p.1, p.2) (begin_stops c.args.nodes.now c.args.procs.now c.args.tape.now c.args.here c.args.i c.in-SetLoc.a (begin_setloc c.args.nodes.now c.args.procs.now c.args.tape.now c.args.here c.args.i c.in-SetLoc.k c.in-SetLoc.a c.in-SetLoc.is) c.args.here.counts (memory c.args.frames.now c.args.globals.now c.args.cells.now c.args.out.now) (memory c.eval.new.frames c.eval.new.globals c.eval.new.cells c.eval.new.out) c.in_err-x.field-0.0 c.in_err-x.ensures)
 
 pub exec-eval-requires-in-SetGlob : goal.exec-eval-requires-in-SetGlob
 exec-eval-requires-in-SetGlob t c =
     let p = begin_setglob c.args.nodes.now c.args.procs.now c.args.tape.now c.args.here c.args.i c.in-SetGlob.k c.in-SetGlob.a c.in-SetGlob.is c.requires.tree.0 c.requires.tree.1 in
     (omega (arith, p.later, c.decreases), ((p.part, p.at), (c.requires.measured, c.requires.room)))
 
-pub exec-returns-in-err-x-2 : goal.exec-returns-in-err-x-2
-exec-returns-in-err-x-2 t c =
-    let p = err_from_is_err_and c.from-residual-in-err-x-2.result c.from-residual-in-err-x-2.ensures.1 in
-    rw (p.1, p.2) (begin_stops c.args.nodes.now c.args.procs.now c.args.tape.now c.args.here c.args.i c.in-SetGlob.a (begin_setglob c.args.nodes.now c.args.procs.now c.args.tape.now c.args.here c.args.i c.in-SetGlob.k c.in-SetGlob.a c.in-SetGlob.is) c.args.here.counts (memory c.args.frames.now c.args.globals.now c.args.cells.now c.args.out.now) (memory c.eval-in-SetGlob.new.frames c.eval-in-SetGlob.new.globals c.eval-in-SetGlob.new.cells c.eval-in-SetGlob.new.out) c.in-err-x-2.field-0.0 c.in-err-x-2.ensures)
+pub exec-returns-in_err-x-2 : goal.exec-returns-in_err-x-2
+exec-returns-in_err-x-2 t c =
+    let p = err_from_is_err_and c.from-residual-in_err-x-2.result c.from-residual-in_err-x-2.ensures.1 in
+    rw (p.1, p.2) (begin_stops c.args.nodes.now c.args.procs.now c.args.tape.now c.args.here c.args.i c.in-SetGlob.a (begin_setglob c.args.nodes.now c.args.procs.now c.args.tape.now c.args.here c.args.i c.in-SetGlob.k c.in-SetGlob.a c.in-SetGlob.is) c.args.here.counts (memory c.args.frames.now c.args.globals.now c.args.cells.now c.args.out.now) (memory c.eval-in-SetGlob.new.frames c.eval-in-SetGlob.new.globals c.eval-in-SetGlob.new.cells c.eval-in-SetGlob.new.out) c.in_err-x-2.field-0.0 c.in_err-x-2.ensures)
 
 pub exec-eval-requires-in-SetCell : goal.exec-eval-requires-in-SetCell
 exec-eval-requires-in-SetCell t c =
     let p = begin_setcell c.args.nodes.now c.args.procs.now c.args.tape.now c.args.here c.args.i c.in-SetCell.a c.in-SetCell.b c.in-SetCell.is c.requires.tree.0 c.requires.tree.1 in
     (omega (arith, p.later, c.decreases), ((p.part, p.at), (c.requires.measured, c.requires.room)))
 
-pub exec-returns-in-err-place : goal.exec-returns-in-err-place
-exec-returns-in-err-place t c =
-    let p = err_from_is_err_and c.from-residual-in-err-place.result c.from-residual-in-err-place.ensures.1 in
-    rw (p.1, p.2) (begin_stops c.args.nodes.now c.args.procs.now c.args.tape.now c.args.here c.args.i c.in-SetCell.a (begin_setcell c.args.nodes.now c.args.procs.now c.args.tape.now c.args.here c.args.i c.in-SetCell.a c.in-SetCell.b c.in-SetCell.is) c.args.here.counts (memory c.args.frames.now c.args.globals.now c.args.cells.now c.args.out.now) (memory c.eval-in-SetCell.new.frames c.eval-in-SetCell.new.globals c.eval-in-SetCell.new.cells c.eval-in-SetCell.new.out) c.in-err-place.field-0.0 c.in-err-place.ensures)
+pub exec-returns-in_err-place : goal.exec-returns-in_err-place
+exec-returns-in_err-place t c =
+    let p = err_from_is_err_and c.from-residual-in_err-place.result c.from-residual-in_err-place.ensures.1 in
+    rw (p.1, p.2) (begin_stops c.args.nodes.now c.args.procs.now c.args.tape.now c.args.here c.args.i c.in-SetCell.a (begin_setcell c.args.nodes.now c.args.procs.now c.args.tape.now c.args.here c.args.i c.in-SetCell.a c.in-SetCell.b c.in-SetCell.is) c.args.here.counts (memory c.args.frames.now c.args.globals.now c.args.cells.now c.args.out.now) (memory c.eval-in-SetCell.new.frames c.eval-in-SetCell.new.globals c.eval-in-SetCell.new.cells c.eval-in-SetCell.new.out) c.in_err-place.field-0.0 c.in_err-place.ensures)
 
 pub exec-eval-requires-in-SetCell-2 : goal.exec-eval-requires-in-SetCell-2
 exec-eval-requires-in-SetCell-2 t c =
     let p = setcell_second c.args.nodes.now c.args.procs.now c.args.tape.now c.args.here c.args.i c.in-SetCell.a c.in-SetCell.b c.in-SetCell.is c.requires.tree.0 c.requires.tree.1 in
     (omega (arith, p.1, c.decreases), ((p.0, p.2), (c.requires.measured, omega (arith, c.requires.room, c.eval-in-SetCell.auto.frames))))
 
-pub exec-returns-in-err-x-3 : goal.exec-returns-in-err-x-3
-exec-returns-in-err-x-3 t c =
-    let p = err_from_is_err_and c.from-residual-in-err-x-3.result c.from-residual-in-err-x-3.ensures.1 in
-    rw (p.1, p.2) (setcell_stops c.args.nodes.now c.args.procs.now c.args.tape.now c.args.here c.args.i c.in-SetCell.a c.in-SetCell.b c.in-SetCell.is c.args.here.counts (memory c.args.frames.now c.args.globals.now c.args.cells.now c.args.out.now) (memory c.eval-in-SetCell.new.frames c.eval-in-SetCell.new.globals c.eval-in-SetCell.new.cells c.eval-in-SetCell.new.out) (memory c.eval-in-SetCell-2.new.frames c.eval-in-SetCell-2.new.globals c.eval-in-SetCell-2.new.cells c.eval-in-SetCell-2.new.out) c.in-ok-place.place c.in-err-x-3.field-0.0 c.in-ok-place.ensures c.in-err-x-3.ensures)
+pub exec-returns-in_err-x-3 : goal.exec-returns-in_err-x-3
+exec-returns-in_err-x-3 t c =
+    let p = err_from_is_err_and c.from-residual-in_err-x-3.result c.from-residual-in_err-x-3.ensures.1 in
+    rw (p.1, p.2) (setcell_stops c.args.nodes.now c.args.procs.now c.args.tape.now c.args.here c.args.i c.in-SetCell.a c.in-SetCell.b c.in-SetCell.is c.args.here.counts (memory c.args.frames.now c.args.globals.now c.args.cells.now c.args.out.now) (memory c.eval-in-SetCell.new.frames c.eval-in-SetCell.new.globals c.eval-in-SetCell.new.cells c.eval-in-SetCell.new.out) (memory c.eval-in-SetCell-2.new.frames c.eval-in-SetCell-2.new.globals c.eval-in-SetCell-2.new.cells c.eval-in-SetCell-2.new.out) c.in_ok-place.place c.in_err-x-3.field-0.0 c.in_ok-place.ensures c.in_err-x-3.ensures)
 
 pub exec-returns-then-place-cells : goal.exec-returns-then-place-cells
-exec-returns-then-place-cells t c = setcell_index c.args.nodes.now c.args.procs.now c.args.tape.now c.args.here c.args.i c.in-SetCell.a c.in-SetCell.b c.in-SetCell.is c.args.here.counts (memory c.args.frames.now c.args.globals.now c.args.cells.now c.args.out.now) (memory c.eval-in-SetCell.new.frames c.eval-in-SetCell.new.globals c.eval-in-SetCell.new.cells c.eval-in-SetCell.new.out) (memory c.eval-in-SetCell-2.new.frames c.eval-in-SetCell-2.new.globals c.eval-in-SetCell-2.new.cells c.eval-in-SetCell-2.new.out) c.in-ok-place.place c.in-ok-x-3.x c.if-place-cells.true c.in-ok-place.ensures c.in-ok-x-3.ensures
+exec-returns-then-place-cells t c = setcell_index c.args.nodes.now c.args.procs.now c.args.tape.now c.args.here c.args.i c.in-SetCell.a c.in-SetCell.b c.in-SetCell.is c.args.here.counts (memory c.args.frames.now c.args.globals.now c.args.cells.now c.args.out.now) (memory c.eval-in-SetCell.new.frames c.eval-in-SetCell.new.globals c.eval-in-SetCell.new.cells c.eval-in-SetCell.new.out) (memory c.eval-in-SetCell-2.new.frames c.eval-in-SetCell-2.new.globals c.eval-in-SetCell-2.new.cells c.eval-in-SetCell-2.new.out) c.in_ok-place.place c.in_ok-x-3.x c.if-place-cells.true c.in_ok-place.ensures c.in_ok-x-3.ensures
 
 pub exec-eval-requires-in-If : goal.exec-eval-requires-in-If
 exec-eval-requires-in-If t c =
     let p = begin_if c.args.nodes.now c.args.procs.now c.args.tape.now c.args.here c.args.i c.in-If.a c.in-If.b c.in-If.d c.in-If.is c.requires.tree.0 c.requires.tree.1 in
     (omega (arith, p.later, c.decreases), ((p.part, p.at), (c.requires.measured, c.requires.room)))
 
-pub exec-returns-in-err-x-4 : goal.exec-returns-in-err-x-4
-exec-returns-in-err-x-4 t c =
-    let p = err_from_is_err_and c.from-residual-in-err-x-4.result c.from-residual-in-err-x-4.ensures.1 in
-    rw (p.1, p.2) (begin_stops c.args.nodes.now c.args.procs.now c.args.tape.now c.args.here c.args.i c.in-If.a (begin_if c.args.nodes.now c.args.procs.now c.args.tape.now c.args.here c.args.i c.in-If.a c.in-If.b c.in-If.d c.in-If.is) c.args.here.counts (memory c.args.frames.now c.args.globals.now c.args.cells.now c.args.out.now) (memory c.eval-in-If.new.frames c.eval-in-If.new.globals c.eval-in-If.new.cells c.eval-in-If.new.out) c.in-err-x-4.field-0.0 c.in-err-x-4.ensures)
+pub exec-returns-in_err-x-4 : goal.exec-returns-in_err-x-4
+exec-returns-in_err-x-4 t c =
+    let p = err_from_is_err_and c.from-residual-in_err-x-4.result c.from-residual-in_err-x-4.ensures.1 in
+    rw (p.1, p.2) (begin_stops c.args.nodes.now c.args.procs.now c.args.tape.now c.args.here c.args.i c.in-If.a (begin_if c.args.nodes.now c.args.procs.now c.args.tape.now c.args.here c.args.i c.in-If.a c.in-If.b c.in-If.d c.in-If.is) c.args.here.counts (memory c.args.frames.now c.args.globals.now c.args.cells.now c.args.out.now) (memory c.eval-in-If.new.frames c.eval-in-If.new.globals c.eval-in-If.new.cells c.eval-in-If.new.out) c.in_err-x-4.field-0.0 c.in_err-x-4.ensures)
 
 pub exec-exec-requires-then-x-eq0 : goal.exec-exec-requires-then-x-eq0
 exec-exec-requires-then-x-eq0 t c =
@@ -211,59 +211,59 @@ exec-eval-requires-in-Out t c =
     let p = begin_out c.args.nodes.now c.args.procs.now c.args.tape.now c.args.here c.args.i c.in-Out.a c.in-Out.is c.requires.tree.0 c.requires.tree.1 in
     (omega (arith, p.later, c.decreases), ((p.part, p.at), (c.requires.measured, c.requires.room)))
 
-pub exec-returns-in-err-x-5 : goal.exec-returns-in-err-x-5
-exec-returns-in-err-x-5 t c =
-    let p = err_from_is_err_and c.from-residual-in-err-x-5.result c.from-residual-in-err-x-5.ensures.1 in
-    rw (p.1, p.2) (begin_stops c.args.nodes.now c.args.procs.now c.args.tape.now c.args.here c.args.i c.in-Out.a (begin_out c.args.nodes.now c.args.procs.now c.args.tape.now c.args.here c.args.i c.in-Out.a c.in-Out.is) c.args.here.counts (memory c.args.frames.now c.args.globals.now c.args.cells.now c.args.out.now) (memory c.eval-in-Out.new.frames c.eval-in-Out.new.globals c.eval-in-Out.new.cells c.eval-in-Out.new.out) c.in-err-x-5.field-0.0 c.in-err-x-5.ensures)
+pub exec-returns-in_err-x-5 : goal.exec-returns-in_err-x-5
+exec-returns-in_err-x-5 t c =
+    let p = err_from_is_err_and c.from-residual-in_err-x-5.result c.from-residual-in_err-x-5.ensures.1 in
+    rw (p.1, p.2) (begin_stops c.args.nodes.now c.args.procs.now c.args.tape.now c.args.here c.args.i c.in-Out.a (begin_out c.args.nodes.now c.args.procs.now c.args.tape.now c.args.here c.args.i c.in-Out.a c.in-Out.is) c.args.here.counts (memory c.args.frames.now c.args.globals.now c.args.cells.now c.args.out.now) (memory c.eval-in-Out.new.frames c.eval-in-Out.new.globals c.eval-in-Out.new.cells c.eval-in-Out.new.out) c.in_err-x-5.field-0.0 c.in_err-x-5.ensures)
 
 pub exec-returns-in-Skip : goal.exec-returns-in-Skip
 exec-returns-in-Skip t c = skip_does c.args.nodes.now c.args.procs.now c.args.tape.now c.args.here c.args.i c.args.here.counts (memory c.args.frames.now c.args.globals.now c.args.cells.now c.args.out.now) c.in-Skip.is
 
-pub exec-returns-in-ok-first : goal.exec-returns-in-ok-first
-exec-returns-in-ok-first t c = then_does c.args.nodes.now c.args.procs.now c.args.tape.now c.args.here c.args.i c.in-Then.a c.in-Then.b c.in-Then.is c.args.here.counts c.in-ok-first.first (memory c.args.frames.now c.args.globals.now c.args.cells.now c.args.out.now) (memory c.exec.new.frames c.exec.new.globals c.exec.new.cells c.exec.new.out) (memory c.exec-in-Then.new.frames c.exec-in-Then.new.globals c.exec-in-Then.new.cells c.exec-in-Then.new.out) c.exec-in-Then.result c.in-ok-first.ensures c.exec-in-Then.ensures
+pub exec-returns-in_ok-first : goal.exec-returns-in_ok-first
+exec-returns-in_ok-first t c = then_does c.args.nodes.now c.args.procs.now c.args.tape.now c.args.here c.args.i c.in-Then.a c.in-Then.b c.in-Then.is c.args.here.counts c.in_ok-first.first (memory c.args.frames.now c.args.globals.now c.args.cells.now c.args.out.now) (memory c.exec.new.frames c.exec.new.globals c.exec.new.cells c.exec.new.out) (memory c.exec-in-Then.new.frames c.exec-in-Then.new.globals c.exec-in-Then.new.cells c.exec-in-Then.new.out) c.exec-in-Then.result c.in_ok-first.ensures c.exec-in-Then.ensures
 
-pub exec-returns-in-ok-x : goal.exec-returns-in-ok-x
-exec-returns-in-ok-x t c = setloc_does c.args.nodes.now c.args.procs.now c.args.tape.now c.args.here c.args.i c.in-SetLoc.k c.in-SetLoc.a c.in-SetLoc.is c.args.here.counts (memory c.args.frames.now c.args.globals.now c.args.cells.now c.args.out.now) (memory c.eval.new.frames c.eval.new.globals c.eval.new.cells c.eval.new.out) c.in-ok-x.x c.put-local.new.frames c.put-local.ensures c.in-ok-x.ensures
+pub exec-returns-in_ok-x : goal.exec-returns-in_ok-x
+exec-returns-in_ok-x t c = setloc_does c.args.nodes.now c.args.procs.now c.args.tape.now c.args.here c.args.i c.in-SetLoc.k c.in-SetLoc.a c.in-SetLoc.is c.args.here.counts (memory c.args.frames.now c.args.globals.now c.args.cells.now c.args.out.now) (memory c.eval.new.frames c.eval.new.globals c.eval.new.cells c.eval.new.out) c.in_ok-x.x c.put_local.new.frames c.put_local.ensures c.in_ok-x.ensures
 
-pub exec-returns-in-ok-x-2 : goal.exec-returns-in-ok-x-2
-exec-returns-in-ok-x-2 t c = setglob_does c.args.nodes.now c.args.procs.now c.args.tape.now c.args.here c.args.i c.in-SetGlob.k c.in-SetGlob.a c.in-SetGlob.is c.args.here.counts (memory c.args.frames.now c.args.globals.now c.args.cells.now c.args.out.now) (memory c.eval-in-SetGlob.new.frames c.eval-in-SetGlob.new.globals c.eval-in-SetGlob.new.cells c.eval-in-SetGlob.new.out) c.in-ok-x-2.x c.put-at.new.words c.put-at.ensures c.in-ok-x-2.ensures
+pub exec-returns-in_ok-x-2 : goal.exec-returns-in_ok-x-2
+exec-returns-in_ok-x-2 t c = setglob_does c.args.nodes.now c.args.procs.now c.args.tape.now c.args.here c.args.i c.in-SetGlob.k c.in-SetGlob.a c.in-SetGlob.is c.args.here.counts (memory c.args.frames.now c.args.globals.now c.args.cells.now c.args.out.now) (memory c.eval-in-SetGlob.new.frames c.eval-in-SetGlob.new.globals c.eval-in-SetGlob.new.cells c.eval-in-SetGlob.new.out) c.in_ok-x-2.x c.put_at.new.words c.put_at.ensures c.in_ok-x-2.ensures
 
 pub exec-returns-else-place-cells : goal.exec-returns-else-place-cells
-exec-returns-else-place-cells t c = setcell_does c.args.nodes.now c.args.procs.now c.args.tape.now c.args.here c.args.i c.in-SetCell.a c.in-SetCell.b c.in-SetCell.is c.args.here.counts (memory c.args.frames.now c.args.globals.now c.args.cells.now c.args.out.now) (memory c.eval-in-SetCell.new.frames c.eval-in-SetCell.new.globals c.eval-in-SetCell.new.cells c.eval-in-SetCell.new.out) (memory c.eval-in-SetCell-2.new.frames c.eval-in-SetCell-2.new.globals c.eval-in-SetCell-2.new.cells c.eval-in-SetCell-2.new.out) c.in-ok-place.place c.in-ok-x-3.x c.if-place-cells.false c.in-ok-place.ensures c.in-ok-x-3.ensures
+exec-returns-else-place-cells t c = setcell_does c.args.nodes.now c.args.procs.now c.args.tape.now c.args.here c.args.i c.in-SetCell.a c.in-SetCell.b c.in-SetCell.is c.args.here.counts (memory c.args.frames.now c.args.globals.now c.args.cells.now c.args.out.now) (memory c.eval-in-SetCell.new.frames c.eval-in-SetCell.new.globals c.eval-in-SetCell.new.cells c.eval-in-SetCell.new.out) (memory c.eval-in-SetCell-2.new.frames c.eval-in-SetCell-2.new.globals c.eval-in-SetCell-2.new.cells c.eval-in-SetCell-2.new.out) c.in_ok-place.place c.in_ok-x-3.x c.if-place-cells.false c.in_ok-place.ensures c.in_ok-x-3.ensures
 
 pub exec-returns-then-x-eq0 : goal.exec-returns-then-x-eq0
-exec-returns-then-x-eq0 t c = if_0 c.args.nodes.now c.args.procs.now c.args.tape.now c.args.here c.args.i c.in-If.a c.in-If.b c.in-If.d c.in-If.is c.args.here.counts (memory c.args.frames.now c.args.globals.now c.args.cells.now c.args.out.now) (memory c.eval-in-If.new.frames c.eval-in-If.new.globals c.eval-in-If.new.cells c.eval-in-If.new.out) (memory c.exec-then-x-eq0.new.frames c.exec-then-x-eq0.new.globals c.exec-then-x-eq0.new.cells c.exec-then-x-eq0.new.out) c.in-ok-x-4.x c.exec-then-x-eq0.result c.if-x-eq0.true c.in-ok-x-4.ensures c.exec-then-x-eq0.ensures
+exec-returns-then-x-eq0 t c = if_0 c.args.nodes.now c.args.procs.now c.args.tape.now c.args.here c.args.i c.in-If.a c.in-If.b c.in-If.d c.in-If.is c.args.here.counts (memory c.args.frames.now c.args.globals.now c.args.cells.now c.args.out.now) (memory c.eval-in-If.new.frames c.eval-in-If.new.globals c.eval-in-If.new.cells c.eval-in-If.new.out) (memory c.exec-then-x-eq0.new.frames c.exec-then-x-eq0.new.globals c.exec-then-x-eq0.new.cells c.exec-then-x-eq0.new.out) c.in_ok-x-4.x c.exec-then-x-eq0.result c.if-x-eq0.true c.in_ok-x-4.ensures c.exec-then-x-eq0.ensures
 
 pub exec-returns-else-x-eq0 : goal.exec-returns-else-x-eq0
-exec-returns-else-x-eq0 t c = if_not_0 c.args.nodes.now c.args.procs.now c.args.tape.now c.args.here c.args.i c.in-If.a c.in-If.b c.in-If.d c.in-If.is c.args.here.counts (memory c.args.frames.now c.args.globals.now c.args.cells.now c.args.out.now) (memory c.eval-in-If.new.frames c.eval-in-If.new.globals c.eval-in-If.new.cells c.eval-in-If.new.out) (memory c.exec-else-x-eq0.new.frames c.exec-else-x-eq0.new.globals c.exec-else-x-eq0.new.cells c.exec-else-x-eq0.new.out) c.in-ok-x-4.x c.exec-else-x-eq0.result c.if-x-eq0.false c.in-ok-x-4.ensures c.exec-else-x-eq0.ensures
+exec-returns-else-x-eq0 t c = if_not_0 c.args.nodes.now c.args.procs.now c.args.tape.now c.args.here c.args.i c.in-If.a c.in-If.b c.in-If.d c.in-If.is c.args.here.counts (memory c.args.frames.now c.args.globals.now c.args.cells.now c.args.out.now) (memory c.eval-in-If.new.frames c.eval-in-If.new.globals c.eval-in-If.new.cells c.eval-in-If.new.out) (memory c.exec-else-x-eq0.new.frames c.exec-else-x-eq0.new.globals c.exec-else-x-eq0.new.cells c.exec-else-x-eq0.new.out) c.in_ok-x-4.x c.exec-else-x-eq0.result c.if-x-eq0.false c.in_ok-x-4.ensures c.exec-else-x-eq0.ensures
 
 pub exec-returns-in-While : goal.exec-returns-in-While
 exec-returns-in-While t c = while_does c.args.nodes.now c.args.procs.now c.args.tape.now c.args.here c.args.i c.in-While.a c.in-While.b c.in-While.is c.args.here.counts (memory c.args.frames.now c.args.globals.now c.args.cells.now c.args.out.now) (memory c.repeat.new.frames c.repeat.new.globals c.repeat.new.cells c.repeat.new.out) c.repeat.result c.repeat.ensures
 
-pub exec-returns-in-ok-x-5 : goal.exec-returns-in-ok-x-5
-exec-returns-in-ok-x-5 t c = out_does c.args.nodes.now c.args.procs.now c.args.tape.now c.args.here c.args.i c.in-Out.a c.in-Out.is c.args.here.counts (memory c.args.frames.now c.args.globals.now c.args.cells.now c.args.out.now) (memory c.eval-in-Out.new.frames c.eval-in-Out.new.globals c.eval-in-Out.new.cells c.eval-in-Out.new.out) c.in-ok-x-5.x c.put-out.new.out c.put-out.result c.put-out.ensures c.in-ok-x-5.ensures
+pub exec-returns-in_ok-x-5 : goal.exec-returns-in_ok-x-5
+exec-returns-in_ok-x-5 t c = out_does c.args.nodes.now c.args.procs.now c.args.tape.now c.args.here c.args.i c.in-Out.a c.in-Out.is c.args.here.counts (memory c.args.frames.now c.args.globals.now c.args.cells.now c.args.out.now) (memory c.eval-in-Out.new.frames c.eval-in-Out.new.globals c.eval-in-Out.new.cells c.eval-in-Out.new.out) c.in_ok-x-5.x c.put_out.new.out c.put_out.result c.put_out.ensures c.in_ok-x-5.ensures
 
 pub exec-returns-in-Take : goal.exec-returns-in-Take
-exec-returns-in-Take t c = take_does c.args.nodes.now c.args.procs.now c.args.tape.now c.args.here c.args.i c.in-Take.k c.in-Take.is c.args.here.counts (memory c.args.frames.now c.args.globals.now c.args.cells.now c.args.out.now) c.take-word-x.result c.put-local-in-Take.new.frames c.take-word-x.ensures c.put-local-in-Take.ensures
+exec-returns-in-Take t c = take_does c.args.nodes.now c.args.procs.now c.args.tape.now c.args.here c.args.i c.in-Take.k c.in-Take.is c.args.here.counts (memory c.args.frames.now c.args.globals.now c.args.cells.now c.args.out.now) c.take_word-x.result c.put_local-in-Take.new.frames c.take_word-x.ensures c.put_local-in-Take.ensures
 
-pub exec-returns-in-default : goal.exec-returns-in-default
-exec-returns-in-default t c = λ g s held at. let r = c.in-default in absurd (no_stmt c.args.nodes.now c.args.i (node_at c.args.nodes.now c.args.i) refl r.not-Skip r.not-Then r.not-SetLoc r.not-SetGlob r.not-SetCell r.not-If r.not-While r.not-Out r.not-Take s at)
+pub exec-returns-in_default : goal.exec-returns-in_default
+exec-returns-in_default t c = λ g s held at. let r = c.in_default in absurd (no_stmt c.args.nodes.now c.args.i (node_at c.args.nodes.now c.args.i) refl r.not-Skip r.not-Then r.not-SetLoc r.not-SetGlob r.not-SetCell r.not-If r.not-While r.not-Out r.not-Take s at)
 
-pub repeat-returns-in-err-x : goal.repeat-returns-in-err-x
-repeat-returns-in-err-x t c =
+pub repeat-returns-in_err-x : goal.repeat-returns-in_err-x
+repeat-returns-in_err-x t c =
     let p = err_from_is_err_and c.from-residual.result c.from-residual.ensures.1 in
-    rw (p.1, p.2) (c.loop-x.invariant.1 (memory c.eval.new.frames c.eval.new.globals c.eval.new.cells c.eval.new.out) (Err c.in-err-x.field-0.0) (test_stops c.args.nodes.now c.args.procs.now c.args.tape.now c.args.i c.args.j c.args.here c.loop-x.fuel c.loop-x.counts (memory c.loop-x.frames c.loop-x.globals c.loop-x.cells c.loop-x.out) (memory c.eval.new.frames c.eval.new.globals c.eval.new.cells c.eval.new.out) c.in-err-x.field-0.0 c.in-err-x.ensures))
+    rw (p.1, p.2) (c.loop-x.invariant.1 (memory c.eval.new.frames c.eval.new.globals c.eval.new.cells c.eval.new.out) (Err c.in_err-x.field-0.0) (test_stops c.args.nodes.now c.args.procs.now c.args.tape.now c.args.i c.args.j c.args.here c.loop-x.fuel c.loop-x.counts (memory c.loop-x.frames c.loop-x.globals c.loop-x.cells c.loop-x.out) (memory c.eval.new.frames c.eval.new.globals c.eval.new.cells c.eval.new.out) c.in_err-x.field-0.0 c.in_err-x.ensures))
 
 pub repeat-returns-then-x-eq0 : goal.repeat-returns-then-x-eq0
-repeat-returns-then-x-eq0 t c = c.loop-x.invariant.1 (memory c.eval.new.frames c.eval.new.globals c.eval.new.cells c.eval.new.out) (Ok c.in-ok-x.x.counts) (test_is_0 c.args.nodes.now c.args.procs.now c.args.tape.now c.args.i c.args.j c.args.here c.loop-x.fuel c.loop-x.counts (memory c.loop-x.frames c.loop-x.globals c.loop-x.cells c.loop-x.out) (memory c.eval.new.frames c.eval.new.globals c.eval.new.cells c.eval.new.out) c.in-ok-x.x c.in-ok-x.ensures c.if-x-eq0.true)
+repeat-returns-then-x-eq0 t c = c.loop-x.invariant.1 (memory c.eval.new.frames c.eval.new.globals c.eval.new.cells c.eval.new.out) (Ok c.in_ok-x.x.counts) (test_is_0 c.args.nodes.now c.args.procs.now c.args.tape.now c.args.i c.args.j c.args.here c.loop-x.fuel c.loop-x.counts (memory c.loop-x.frames c.loop-x.globals c.loop-x.cells c.loop-x.out) (memory c.eval.new.frames c.eval.new.globals c.eval.new.cells c.eval.new.out) c.in_ok-x.x c.in_ok-x.ensures c.if-x-eq0.true)
 
-pub repeat-returns-in-err-counts : goal.repeat-returns-in-err-counts
-repeat-returns-in-err-counts t c =
-    let p = err_from_is_err_and c.from-residual-in-err-counts.result c.from-residual-in-err-counts.ensures.1 in
-    rw (p.1, p.2) (c.loop-x.invariant.1 (memory c.exec.new.frames c.exec.new.globals c.exec.new.cells c.exec.new.out) (Err c.in-err-counts.field-0.0) (body_stops c.args.nodes.now c.args.procs.now c.args.tape.now c.args.i c.args.j c.args.here c.loop-x.fuel c.loop-x.counts (memory c.loop-x.frames c.loop-x.globals c.loop-x.cells c.loop-x.out) (memory c.eval.new.frames c.eval.new.globals c.eval.new.cells c.eval.new.out) c.in-ok-x.x c.in-ok-x.ensures c.if-x-eq0.false (memory c.exec.new.frames c.exec.new.globals c.exec.new.cells c.exec.new.out) c.in-err-counts.field-0.0 c.in-err-counts.ensures))
+pub repeat-returns-in_err-counts : goal.repeat-returns-in_err-counts
+repeat-returns-in_err-counts t c =
+    let p = err_from_is_err_and c.from-residual-in_err-counts.result c.from-residual-in_err-counts.ensures.1 in
+    rw (p.1, p.2) (c.loop-x.invariant.1 (memory c.exec.new.frames c.exec.new.globals c.exec.new.cells c.exec.new.out) (Err c.in_err-counts.field-0.0) (body_stops c.args.nodes.now c.args.procs.now c.args.tape.now c.args.i c.args.j c.args.here c.loop-x.fuel c.loop-x.counts (memory c.loop-x.frames c.loop-x.globals c.loop-x.cells c.loop-x.out) (memory c.eval.new.frames c.eval.new.globals c.eval.new.cells c.eval.new.out) c.in_ok-x.x c.in_ok-x.ensures c.if-x-eq0.false (memory c.exec.new.frames c.exec.new.globals c.exec.new.cells c.exec.new.out) c.in_err-counts.field-0.0 c.in_err-counts.ensures))
 
 pub repeat-returns-then-fuel-eq0 : goal.repeat-returns-then-fuel-eq0
-repeat-returns-then-fuel-eq0 t c = c.loop-x.invariant.1 (memory c.exec.new.frames c.exec.new.globals c.exec.new.cells c.exec.new.out) (Err (Spent c.in-ok-counts.counts)) (fuel_spent c.args.nodes.now c.args.procs.now c.args.tape.now c.args.i c.args.j c.args.here c.loop-x.fuel c.loop-x.counts (memory c.loop-x.frames c.loop-x.globals c.loop-x.cells c.loop-x.out) (memory c.eval.new.frames c.eval.new.globals c.eval.new.cells c.eval.new.out) c.in-ok-x.x c.in-ok-x.ensures c.if-x-eq0.false (memory c.exec.new.frames c.exec.new.globals c.exec.new.cells c.exec.new.out) c.in-ok-counts.counts c.if-fuel-eq0.true c.in-ok-counts.ensures)
+repeat-returns-then-fuel-eq0 t c = c.loop-x.invariant.1 (memory c.exec.new.frames c.exec.new.globals c.exec.new.cells c.exec.new.out) (Err (Spent c.in_ok-counts.counts)) (fuel_spent c.args.nodes.now c.args.procs.now c.args.tape.now c.args.i c.args.j c.args.here c.loop-x.fuel c.loop-x.counts (memory c.loop-x.frames c.loop-x.globals c.loop-x.cells c.loop-x.out) (memory c.eval.new.frames c.eval.new.globals c.eval.new.cells c.eval.new.out) c.in_ok-x.x c.in_ok-x.ensures c.if-x-eq0.false (memory c.exec.new.frames c.exec.new.globals c.exec.new.cells c.exec.new.out) c.in_ok-counts.counts c.if-fuel-eq0.true c.in_ok-counts.ensures)
 
 pub repeat-loop-x-preserved : goal.repeat-loop-x-preserved
-repeat-loop-x-preserved t c = (omega (arith, c.loop-x.invariant.0), λ m x h. c.loop-x.invariant.1 m x (turn_more c.args.nodes.now c.args.procs.now c.args.tape.now c.args.i c.args.j c.args.here c.loop-x.fuel c.loop-x.counts (memory c.loop-x.frames c.loop-x.globals c.loop-x.cells c.loop-x.out) (memory c.eval.new.frames c.eval.new.globals c.eval.new.cells c.eval.new.out) c.in-ok-x.x c.in-ok-x.ensures c.if-x-eq0.false (memory c.exec.new.frames c.exec.new.globals c.exec.new.cells c.exec.new.out) m c.in-ok-counts.counts x c.if-fuel-eq0.false c.in-ok-counts.ensures h))
+repeat-loop-x-preserved t c = (omega (arith, c.loop-x.invariant.0), λ m x h. c.loop-x.invariant.1 m x (turn_more c.args.nodes.now c.args.procs.now c.args.tape.now c.args.i c.args.j c.args.here c.loop-x.fuel c.loop-x.counts (memory c.loop-x.frames c.loop-x.globals c.loop-x.cells c.loop-x.out) (memory c.eval.new.frames c.eval.new.globals c.eval.new.cells c.eval.new.out) c.in_ok-x.x c.in_ok-x.ensures c.if-x-eq0.false (memory c.exec.new.frames c.exec.new.globals c.exec.new.cells c.exec.new.out) m c.in_ok-counts.counts x c.if-fuel-eq0.false c.in_ok-counts.ensures h))

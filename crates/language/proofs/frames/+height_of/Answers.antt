@@ -7,8 +7,8 @@ use Rattle.language.proofs.Opened.{opened_expr}
 use Rattle.language.proofs.Heights.{both_of, leaf_high, one_high, two_high, no_expr}
 use Rattle.language.proofs.frames.+height_of.Goals as goal
 
-pub returns-then-i-ge-MOST-NODES : goal.returns-then-i-ge-MOST-NODES
-returns-then-i-ge-MOST-NODES t c = record {
+pub returns-then-i-ge-MOST_NODES : goal.returns-then-i-ge-MOST_NODES
+returns-then-i-ge-MOST_NODES t c = record {
   small = omega arith;
   value = λ e h. let no : ⊥ = omega (arith, (opened_expr c.args.nodes.now c.args.i e _ h refl).1, c.told-nodes) in absurd no;
 }
@@ -28,7 +28,7 @@ returns-then-a-i-2 t c = record {
 pub returns-else-a-i-2 : goal.returns-else-a-i-2
 returns-else-a-i-2 t c = record {
   small = omega arith;
-  value = λ e h. let p = one_high c.args.nodes.now c.args.i c.in-Cell.a e c.in-Cell.is h in c.height-of.ensures.value p.part p.at ∙ sym p.high;
+  value = λ e h. let p = one_high c.args.nodes.now c.args.i c.in-Cell.a e c.in-Cell.is h in c.height_of.ensures.value p.part p.at ∙ sym p.high;
 }
 
 pub returns-then-a-i : goal.returns-then-a-i
@@ -44,14 +44,14 @@ returns-else-b-i t c = record {
   small = omega arith;
   value = λ e h.
       (let p = two_high c.args.nodes.now c.args.i c.in-Add.a c.in-Add.b e c.in-Add.is h in
-      let x = c.height-of-first.ensures.value p.first p.at_first in
-      let y = c.height-of-second.ensures.value p.second p.at_second in
-      both_of c.both.result c.height-of-first.result c.height-of-second.result (height p.first) (height p.second) c.both.ensures x y ∙ sym p.high);
+      let x = c.height_of-first.ensures.value p.first p.at_first in
+      let y = c.height_of-second.ensures.value p.second p.at_second in
+      both_of c.both.result c.height_of-first.result c.height_of-second.result (height p.first) (height p.second) c.both.ensures x y ∙ sym p.high);
 }
 
-pub returns-in-default : goal.returns-in-default
-returns-in-default t c = record {
+pub returns-in_default : goal.returns-in_default
+returns-in_default t c = record {
   small = omega arith;
   value = λ e h. no_expr c.args.nodes.now c.args.i e (node_at c.args.nodes.now c.args.i) h refl
-      c.in-default.not-Num c.in-default.not-Loc c.in-default.not-Glob c.in-default.not-Cell c.in-default.not-Half c.in-default.not-Call c.in-default.not-Add c.in-default.not-Sub c.in-default.not-Nand c.in-default.not-Less;
+      c.in_default.not-Num c.in_default.not-Loc c.in_default.not-Glob c.in_default.not-Cell c.in_default.not-Half c.in_default.not-Call c.in_default.not-Add c.in_default.not-Sub c.in_default.not-Nand c.in_default.not-Less;
 }

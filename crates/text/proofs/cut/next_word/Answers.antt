@@ -4,17 +4,17 @@ use Rattle.std.proofs.lemmas.Bool.{eqb-true, eqb-false}
 use Rattle.std.proofs.Common.{ℕ, ◌-◌, ◌<◌, ◌≢◌, List, length, take, drop, sym, arith}
 use Rattle.text.proofs.cut.next_word.Goals as goal
 
-pub returns-then-is-empty : goal.returns-then-is-empty
-returns-then-is-empty c =
+pub returns-then-is_empty : goal.returns-then-is_empty
+returns-then-is_empty c =
     let s = c.args.s.now in let b = c.blanks.result in
-    cut_none s (take (length s - b) (drop b s)) b (take_rest s b) c.blanks.ensures.rest (eqb-true _ 0 (sym c.if-is-empty.ensures))
+    cut_none s (take (length s - b) (drop b s)) b (take_rest s b) c.blanks.ensures.rest (eqb-true _ 0 (sym c.if-is_empty.ensures))
 
 pub returns : goal.returns
 returns c =
     let s = c.args.s.now in let b = c.blanks.result in
     let t : List ℕ = take (length s - b) (drop b s) in
-    let z : length t ≢ 0 = eqb-false (length t) 0 (sym c.if-is-empty.ensures) in
+    let z : length t ≢ 0 = eqb-false (length t) 0 (sym c.if-is_empty.ensures) in
     let p : 0 < length t = omega arith in
-    cut_some s t c.split-at.result.0.now c.split-at.result.1.now b c.word-len.result (take_rest s b) c.blanks.ensures.rest
-    (c.word-len.ensures.some p (starts_letter s t b (take_rest s b) c.blanks.ensures.stops p))
-    c.word-len.ensures.within c.word-len.ensures.word c.word-len.ensures.rest c.split-at.ensures.front c.split-at.ensures.back
+    cut_some s t c.split_at.result.0.now c.split_at.result.1.now b c.word_len.result (take_rest s b) c.blanks.ensures.rest
+    (c.word_len.ensures.some p (starts_letter s t b (take_rest s b) c.blanks.ensures.stops p))
+    c.word_len.ensures.within c.word_len.ensures.word c.word_len.ensures.rest c.split_at.ensures.front c.split_at.ensures.back

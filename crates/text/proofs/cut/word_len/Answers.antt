@@ -2,13 +2,13 @@ use Rattle.std.proofs.Common.{◌≡◌, ℕ, length, sym, subst, le_refl, arith
 use Rattle.text.proofs.Cuts.{open_more, closed_blank, closed_all, Closed, Open, not_first}
 use Rattle.text.proofs.cut.word_len.Goals as goal
 
-pub returns-then-is-blank : goal.returns-then-is-blank
-returns-then-is-blank c =
-    let o : Closed c.args.s.now c.loop-i.i = closed_blank c.args.s.now c.loop-i.i c.loop-i-test.true (sym c.if-is-blank.ensures) c.loop-i.invariant in
-    record { within = omega arith; word = o.word; rest = o.rest; some = λ _ n. not_first c.args.s.now c.loop-i.i (sym c.if-is-blank.ensures) n }
+pub returns-then-is_blank : goal.returns-then-is_blank
+returns-then-is_blank c =
+    let o : Closed c.args.s.now c.loop-i.i = closed_blank c.args.s.now c.loop-i.i c.loop-i-test.true (sym c.if-is_blank.ensures) c.loop-i.invariant in
+    record { within = omega arith; word = o.word; rest = o.rest; some = λ _ n. not_first c.args.s.now c.loop-i.i (sym c.if-is_blank.ensures) n }
 
 pub loop-i-preserved : goal.loop-i-preserved
-loop-i-preserved c = open_more c.args.s.now c.loop-i.i c.loop-i-test.true (sym c.if-is-blank.ensures) c.loop-i.invariant
+loop-i-preserved c = open_more c.args.s.now c.loop-i.i c.loop-i-test.true (sym c.if-is_blank.ensures) c.loop-i.invariant
 
 pub returns : goal.returns
 returns c =

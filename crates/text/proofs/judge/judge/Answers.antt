@@ -19,18 +19,18 @@ loop-word-preserved c =
     let g : Grown c.loop-word.reader c.in-Some-step.next = grown c.in-Some.word.now c.loop-word.reader c.in-Some-step.next c.in-Some-step.ensures in
     (run_more c.args.text.now c.loop-word.rest.now c.in-Some.word.now c.in-Some.after.now c.loop-word.reader c.in-Some-step.next c.loop-word.invariant.0 cut c.in-Some-step.ensures, omega arith, omega arith, omega arith)
 
-pub returns-then-not-is-done : goal.returns-then-not-is-done
-returns-then-not-is-done c =
-    the_verdict c.args.text.now V.NoProgram (judged_undone c.args.text.now c.loop-word.reader (sym (c.loop-word.invariant.0 ∙ ap (λ ws. run ws c.loop-word.reader) c.in-default.ensures)) (sym c.if-not-is-done.ensures))
+pub returns-then-not-is_done : goal.returns-then-not-is_done
+returns-then-not-is_done c =
+    the_verdict c.args.text.now V.NoProgram (judged_undone c.args.text.now c.loop-word.reader (sym (c.loop-word.invariant.0 ∙ ap (λ ws. run ws c.loop-word.reader) c.in_default.ensures)) (sym c.if-not-is_done.ensures))
 
-pub returns-then-reader-le-MOST-SIGNS : goal.returns-then-reader-le-MOST-SIGNS
-returns-then-reader-le-MOST-SIGNS c =
+pub returns-then-reader-le-MOST_SIGNS : goal.returns-then-reader-le-MOST_SIGNS
+returns-then-reader-le-MOST_SIGNS c =
     let a = c.loop-word.reader in
-    let kept : a.fits && leb a.signs most_signs ≡ true = and_from a.fits (leb a.signs most_signs) c.if-reader.true (le-leb a.signs most_signs c.if-reader-le-MOST-SIGNS.true) in
-    the_verdict c.args.text.now V.Program (judged_program c.args.text.now a (sym (c.loop-word.invariant.0 ∙ ap (λ ws. run ws a) c.in-default.ensures)) (sym c.if-not-is-done.ensures) kept)
+    let kept : a.fits && leb a.signs most_signs ≡ true = and_from a.fits (leb a.signs most_signs) c.if-reader.true (le-leb a.signs most_signs c.if-reader-le-MOST_SIGNS.true) in
+    the_verdict c.args.text.now V.Program (judged_program c.args.text.now a (sym (c.loop-word.invariant.0 ∙ ap (λ ws. run ws a) c.in_default.ensures)) (sym c.if-not-is_done.ensures) kept)
 
 pub returns-else-reader : goal.returns-else-reader
 returns-else-reader c =
     let a = c.loop-word.reader in
     let no : a.fits && leb a.signs most_signs ≡ false = ⊎_elim (λ h. and_right a.fits (leb a.signs most_signs) (lt-leb a.signs most_signs h.1)) (λ h. and_left a.fits (leb a.signs most_signs) h) c.else-reader.either in
-    the_verdict c.args.text.now V.Limits (judged_limits c.args.text.now a (sym (c.loop-word.invariant.0 ∙ ap (λ ws. run ws a) c.in-default.ensures)) (sym c.if-not-is-done.ensures) no)
+    the_verdict c.args.text.now V.Limits (judged_limits c.args.text.now a (sym (c.loop-word.invariant.0 ∙ ap (λ ws. run ws a) c.in_default.ensures)) (sym c.if-not-is_done.ensures) no)

@@ -9,16 +9,16 @@ returns-then-c-lt48 c = sym (no_number_letter c.args.w.now c.loop-i.i c.loop-i-t
 pub returns-then-n-eq0 : goal.returns-then-n-eq0
 returns-then-n-eq0 c = sym (no_number_zero c.args.w.now c.loop-i.i c.loop-i.n c.loop-i-test.true (omega arith) (omega arith) c.loop-i.invariant)
 
-pub returns-then-n-gt-FOUR-DIGITS : goal.returns-then-n-gt-FOUR-DIGITS
-returns-then-n-gt-FOUR-DIGITS c = sym (no_number_long c.args.w.now c.loop-i.i c.loop-i.n c.loop-i-test.true (omega arith) c.loop-i.invariant)
+pub returns-then-n-gt-FOUR_DIGITS : goal.returns-then-n-gt-FOUR_DIGITS
+returns-then-n-gt-FOUR_DIGITS c = sym (no_number_long c.args.w.now c.loop-i.i c.loop-i.n c.loop-i-test.true (omega arith) c.loop-i.invariant)
 
 pub loop-i-preserved : goal.loop-i-preserved
 loop-i-preserved c = number_more c.args.w.now c.loop-i.i c.loop-i.n c.loop-i-test.true (omega arith) (omega arith) (λ h. omega arith) (omega arith) c.loop-i.invariant
 
-pub returns-then-is-empty : goal.returns-then-is-empty
-returns-then-is-empty c = sym (no_number_empty c.args.w.now (eqb-true _ 0 (sym c.if-is-empty.ensures)))
+pub returns-then-is_empty : goal.returns-then-is_empty
+returns-then-is_empty c = sym (no_number_empty c.args.w.now (eqb-true _ 0 (sym c.if-is_empty.ensures)))
 
 pub returns : goal.returns
 returns c =
     let e : c.loop-i.i ≡ length c.args.w.now = omega arith in
-    sym (number_all c.args.w.now c.loop-i.n (omega (arith, eqb-false (length c.args.w.now) 0 (sym c.if-is-empty.ensures))) (subst (λ (i : ℕ). NumberSoFar c.args.w.now i c.loop-i.n) e c.loop-i.invariant))
+    sym (number_all c.args.w.now c.loop-i.n (omega (arith, eqb-false (length c.args.w.now) 0 (sym c.if-is_empty.ensures))) (subst (λ (i : ℕ). NumberSoFar c.args.w.now i c.loop-i.n) e c.loop-i.invariant))

@@ -3,8 +3,8 @@ use Rattle.std.proofs.lemmas.List.{length-set}
 use Rattle.text.proofs.Tables.{next_proc, tabled_more, tabled_all, same_entries_more}
 use Rattle.text.proofs.table.tabulate.Goals as goal
 
-pub offset-bounds-nodes-at : goal.offset-bounds-nodes-at
-offset-bounds-nodes-at c =
+pub offset_bounds-nodes-at : goal.offset_bounds-nodes-at
+offset_bounds-nodes-at c =
     let p = c.requires.stand in
     let n = next_proc c.args.nodes.now c.loop-f.table c.loop-f.at c.loop-f.f p.0 (omega (arith, p.1)) (c.loop-f.invariant.0 p.0 p.1 p.2) in
     omega (arith, n.inside)
@@ -23,11 +23,11 @@ loop-f-preserved c =
       length-set t f _ ∙ c.loop-f.invariant.2,
     )
 
-pub returns-in-default : goal.returns-in-default
-returns-in-default c =
+pub returns-in_default : goal.returns-in_default
+returns-in_default c =
     let p = c.requires.stand in
     let n = next_proc c.args.nodes.now c.loop-f.table c.loop-f.at c.loop-f.f p.0 (omega (arith, p.1)) (c.loop-f.invariant.0 p.0 p.1 p.2) in
-    absurd (c.in-default.not-Proc _ _ _ n.node)
+    absurd (c.in_default.not-Proc _ _ _ n.node)
 
 pub returns : goal.returns
 returns c = record {
