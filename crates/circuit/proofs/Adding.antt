@@ -6,7 +6,7 @@ use Rattle.std.proofs.lemmas.Bool.{lt-ltb, le-ltb}
 use Rattle.words.specs.Words.{bit, value, shifted, nand}
 use Rattle.words.proofs.Bits.{value_not, value_below, shifted_bit}
 use Rattle.circuit.specs.Parts.{Gates, plus2, plus3, plus4}
-use Rattle.circuit.specs.PartsAdder.{plus7, plus8, plus9, full_adder, adder-gates, adder-results, adder-carry}
+use Rattle.circuit.specs.PartsAdder.{plus7, plus8, plus9, full_adder, adder_gates, adder_results, adder_carry}
 use Rattle.circuit.proofs.Settling.{Obeys}
 
 abbrev half_sum : Bool → Bool → Bool
@@ -27,19 +27,19 @@ adds_bit : (f : ℕ → Bool) (n a b c : ℕ) (gs : Gates) → Obeys f n (full_a
 adds_bit f n a b c gs q =
     rw (q.1.1.1.1.1.1.1.1.0, q.1.1.1.1.1.1.1.0, q.1.1.1.1.1.1.0, q.1.1.1.1.1.0, q.1.1.1.1.0, q.1.1.1.0, q.1.1.0, q.1.0, q.0) (full_bit (f a) (f b) (f c))
 
-pub adds : (f : ℕ → Bool) (n : ℕ) (xs ys : List ℕ) (c : ℕ) → length xs ≡ length ys → Obeys f n (adder-gates n xs ys c) →
-    value (map f (adder-results n xs ys)) + shifted (length xs) (bit (f (adder-carry n xs ys c))) ≡ value (map f xs) + value (map f ys) + bit (f c)
-unfolding adder-gates adder-results adder-carry
+pub adds : (f : ℕ → Bool) (n : ℕ) (xs ys : List ℕ) (c : ℕ) → length xs ≡ length ys → Obeys f n (adder_gates n xs ys c) →
+    value (map f (adder_results n xs ys)) + shifted (length xs) (bit (f (adder_carry n xs ys c))) ≡ value (map f xs) + value (map f ys) + bit (f c)
+unfolding adder_gates adder_results adder_carry
 adds f n [] [] c l q = omega arith
 adds f n [] (b ∷ ys) c l q = absurd (omega arith)
 adds f n (a ∷ xs) [] c l q = absurd (omega arith)
 adds f n (a ∷ xs) (b ∷ ys) c l q =
     let ih = adds f (plus9 n) xs ys (plus8 n) (omega arith) q.1.1.1.1.1.1.1.1.1 in
-    let here = adds_bit f n a b c (adder-gates (plus9 n) xs ys (plus8 n)) q in
+    let here = adds_bit f n a b c (adder_gates (plus9 n) xs ys (plus8 n)) q in
     omega arith
 
-pub adder_length : (n : ℕ) (xs ys : List ℕ) → length xs ≡ length ys → length (adder-results n xs ys) ≡ length xs
-unfolding adder-results
+pub adder_length : (n : ℕ) (xs ys : List ℕ) → length xs ≡ length ys → length (adder_results n xs ys) ≡ length xs
+unfolding adder_results
 adder_length n [] ys l = refl
 adder_length n (a ∷ xs) [] l = absurd (omega arith)
 adder_length n (a ∷ xs) (b ∷ ys) l = ap suc (adder_length (plus9 n) xs ys (omega arith))
@@ -51,9 +51,9 @@ difference w a b s true ha hb hs e = (omega arith, sym (le-ltb a b (omega arith)
 difference w a b s false ha hb hs e = let t = shifted_bit w false in (omega arith, sym (lt-ltb a b (omega arith)))
 
 -- an adder of xs and the inverse of zs, with a carry in that is high
-pub subtracts : (f : ℕ → Bool) (n : ℕ) (xs ys : List ℕ) (c : ℕ) (zs : List ℕ) → length xs ≡ length ys → length ys ≡ length zs → f c ≡ true → map f ys ≡ map not (map f zs) → Obeys f n (adder-gates n xs ys c) →
-    (value (map f (adder-results n xs ys)) ≡ cond (not (f (adder-carry n xs ys c))) (value (map f xs) + shifted (length xs) 1 - value (map f zs)) (value (map f xs) - value (map f zs)))
-    × (not (f (adder-carry n xs ys c)) ≡ ltb (value (map f xs)) (value (map f zs)))
+pub subtracts : (f : ℕ → Bool) (n : ℕ) (xs ys : List ℕ) (c : ℕ) (zs : List ℕ) → length xs ≡ length ys → length ys ≡ length zs → f c ≡ true → map f ys ≡ map not (map f zs) → Obeys f n (adder_gates n xs ys c) →
+    (value (map f (adder_results n xs ys)) ≡ cond (not (f (adder_carry n xs ys c))) (value (map f xs) + shifted (length xs) 1 - value (map f zs)) (value (map f xs) - value (map f zs)))
+    × (not (f (adder_carry n xs ys c)) ≡ ltb (value (map f xs)) (value (map f zs)))
 subtracts f n xs ys c zs l m e i q =
     let s = adds f n xs ys c l q in
     let v = value_not (map f zs) in
@@ -61,6 +61,6 @@ subtracts f n xs ys c zs l m e i q =
     let high : bit (f c) ≡ 1 = ap bit e in
     let k : length (map f zs) ≡ length xs = length-map zs f ∙ sym (l ∙ m) in
     let t : shifted (length (map f zs)) 1 ≡ shifted (length xs) 1 = ap (λ j. shifted j 1) k in
-    let all : value (map f (adder-results n xs ys)) + value (map f zs) + shifted (length xs) (bit (f (adder-carry n xs ys c))) ≡ value (map f xs) + shifted (length xs) 1 = omega arith in
+    let all : value (map f (adder_results n xs ys)) + value (map f zs) + shifted (length xs) (bit (f (adder_carry n xs ys c))) ≡ value (map f xs) + shifted (length xs) 1 = omega arith in
     let wide : (us : List ℕ) → length us ≡ length xs → value (map f us) < shifted (length xs) 1 = λ us k. subst (λ j. value (map f us) < shifted j 1) (length-map us f ∙ k) (value_below (map f us)) in
-    difference (length xs) (value (map f xs)) (value (map f zs)) (value (map f (adder-results n xs ys))) (f (adder-carry n xs ys c)) (wide xs refl) (wide zs (sym (l ∙ m))) (wide (adder-results n xs ys) (adder_length n xs ys l)) all
+    difference (length xs) (value (map f xs)) (value (map f zs)) (value (map f (adder_results n xs ys))) (f (adder_carry n xs ys c)) (wide xs refl) (wide zs (sym (l ∙ m))) (wide (adder_results n xs ys) (adder_length n xs ys l)) all

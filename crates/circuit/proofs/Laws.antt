@@ -5,9 +5,9 @@ use lib.ListN.{length-map}
 use Rattle.words.specs.Words.{value, shifted, bit_at, word, put, nands}
 use Rattle.words.proofs.Bits.{value_not, all_low, all_low_is}
 use Rattle.circuit.specs.Circuit.{settle, SoundGates, AllBelow}
-use Rattle.circuit.specs.Parts.{Gates, after, inverter-gates, inverter-results, nand-gates, mux-gates, mux-results, invert-if-gates, zero-gates}
-use Rattle.circuit.specs.PartsAdder.{adder-gates, adder-results, adder-carry, subtract-gates, subtract-results, less-result}
-use Rattle.circuit.specs.PartsRegisters.{read-gates, read-results, write-gates, write-results}
+use Rattle.circuit.specs.Parts.{Gates, after, inverter_gates, inverter_results, nand_gates, mux_gates, mux_results, invert_if_gates, zero_gates}
+use Rattle.circuit.specs.PartsAdder.{adder_gates, adder_results, adder_carry, subtract_gates, subtract_results, less_result}
+use Rattle.circuit.specs.PartsRegisters.{read_gates, read_results, write_gates, write_results}
 use Rattle.circuit.specs.PartsLaws.{word_on, levels_on, words_on, selected, Lines, File, InverterInverts, NandNands, MuxChooses, InvertIfInverts, ZeroTests, AdderAdds, SubtractSubtracts, LessCompares, PortReads, PortWrites}
 use Rattle.circuit.proofs.Settling.{Obeys, obeys_both, kept, kept_word, settle_obeys, after_both}
 use Rattle.circuit.proofs.Words.{inverts, inverts_one, nands_are, chooses, inverts_if, tests_zero}
@@ -21,14 +21,14 @@ no_more n = omega arith
 
 pub inverter_inverts : InverterInverts
 inverter_inverts v xs a =
-    let g = inverter-gates (length v) xs in
+    let g = inverter_gates (length v) xs in
     let e = inverts (bit_at (settle g v)) (length v) xs (settle_obeys g v (inverter_sound (length v) (length v) xs (no_more (length v)) a)) ∙ ap (map not) (kept_word g v xs a) in
     let k : length (levels_on v xs) ≡ length xs = length-map xs (bit_at v) in
     rw (e, ← k) (value_not (levels_on v xs))
 
 pub nand_nands : NandNands
 nand_nands v xs ys a b =
-    let g = nand-gates (length v) xs ys in
+    let g = nand_gates (length v) xs ys in
     nands_are (bit_at (settle g v)) (length v) xs ys (settle_obeys g v (nand_sound (length v) (length v) xs ys (no_more (length v)) a b)) ∙ ap₂ nands (kept_word g v xs a) (kept_word g v ys b)
 
 value_cond : (s : Bool) (xs ys : List Bool) → value (cond s xs ys) ≡ cond s (value xs) (value ys)
@@ -37,7 +37,7 @@ value_cond false xs ys = refl
 
 pub mux_chooses : MuxChooses
 mux_chooses v s t xs ys i a b l =
-    let g = mux-gates (length v) s t xs ys in
+    let g = mux_gates (length v) s t xs ys in
     let es = kept g v s i.0.0 in
     let et : bit_at (settle g v) t ≡ not (bit_at (settle g v) s) = kept g v t i.0.1 ∙ (i.0.2 ∙ ap not (sym es)) in
     let e = chooses (bit_at (settle g v)) (length v) s t xs ys l et (settle_obeys g v (mux_sound (length v) (length v) s t xs ys (no_more (length v)) i.0.0 i.0.1 a b)) in
@@ -49,7 +49,7 @@ inverse_value bs = let e = value_not bs in omega arith
 
 pub invert_if_inverts : InvertIfInverts
 invert_if_inverts v s xs h a =
-    let g = invert-if-gates (length v) s xs in
+    let g = invert_if_gates (length v) s xs in
     let e = inverts_if (bit_at (settle g v)) (length v) s xs (settle_obeys g v (invert_if_sound (length v) (length v) s xs (no_more (length v)) h a)) in
     let k : length (levels_on v xs) ≡ length xs = length-map xs (bit_at v) in
     let i : value (map not (levels_on v xs)) ≡ shifted (length xs) 1 - 1 - word_on v xs = inverse_value (levels_on v xs) ∙ ap (λ n. shifted n 1 - 1 - word_on v xs) k in
@@ -57,35 +57,35 @@ invert_if_inverts v s xs h a =
 
 pub zero_tests : ZeroTests
 zero_tests v z xs h e a =
-    let g = zero-gates (length v) z xs in
+    let g = zero_gates (length v) z xs in
     let r = tests_zero (bit_at (settle g v)) (length v) z xs (settle_obeys g v (zero_sound (length v) (length v) z xs (no_more (length v)) h a)) in
     r ∙ rw (kept g v z h ∙ e, kept_word g v xs a) (all_low_is (levels_on v xs))
 
 -- sums
 pub adder_adds : AdderAdds
 adder_adds v xs ys c a b h l =
-    let g = adder-gates (length v) xs ys c in
+    let g = adder_gates (length v) xs ys c in
     rw (← kept_word g v xs a, ← kept_word g v ys b, ← kept g v c h)
     (adds (bit_at (settle g v)) (length v) xs ys c l (settle_obeys g v (adder_sound (length v) (length v) xs ys c (no_more (length v)) a b h)))
 
-inverter_length : (n : ℕ) (xs : List ℕ) → length (inverter-results n xs) ≡ length xs
-unfolding inverter-results
+inverter_length : (n : ℕ) (xs : List ℕ) → length (inverter_results n xs) ≡ length xs
+unfolding inverter_results
 inverter_length n [] = refl
 inverter_length n (x ∷ xs) = ap suc (inverter_length (suc n) xs)
 
 -- difference and compare of one subtractor
 subtract_does : (v : List Bool) (xs ys : List ℕ) (c : ℕ) → AllBelow xs (length v) → AllBelow ys (length v) → c < length v → bit_at v c ≡ true → length xs ≡ length ys →
-    (word_on (settle (subtract-gates (length v) xs ys c) v) (subtract-results (length v) xs ys)
+    (word_on (settle (subtract_gates (length v) xs ys c) v) (subtract_results (length v) xs ys)
     ≡ cond (ltb (word_on v xs) (word_on v ys)) (word_on v xs + shifted (length xs) 1 - word_on v ys) (word_on v xs - word_on v ys))
-    × (bit_at (settle (subtract-gates (length v) xs ys c) v) (less-result (length v) xs ys c) ≡ ltb (word_on v xs) (word_on v ys))
-unfolding subtract-gates subtract-results less-result
+    × (bit_at (settle (subtract_gates (length v) xs ys c) v) (less_result (length v) xs ys c) ≡ ltb (word_on v xs) (word_on v ys))
+unfolding subtract_gates subtract_results less_result
 subtract_does v xs ys c a b h high l =
     let n = length v in
-    let inverters = inverter-gates n ys in
+    let inverters = inverter_gates n ys in
     let m = after n inverters in
-    let zs = inverter-results n ys in
-    let adder = adder-gates m xs zs c in
-    let carry = adder-carry m xs zs c in
+    let zs = inverter_results n ys in
+    let adder = adder_gates m xs zs c in
+    let carry = adder_carry m xs zs c in
     let last : Gates = (carry, carry) ∷ [] in
     let g = inverters ++ (adder ++ last) in
     let f = bit_at (settle g v) in
@@ -147,7 +147,7 @@ values_set (y ∷ xs) (suc i) x = ap {B = List ℕ} (λ r. value y ∷ r) (value
 
 pub port_reads : PortReads
 port_reads v w ps ws i h l =
-    let g = read-gates (length v) ps ws in
+    let g = read_gates (length v) ps ws in
     let f = bit_at (settle g v) in
     let e = reads f (length v) w ps ws l (file_wide v w ws h) (lines_inverse g v ps i) (settle_obeys g v (read_sound (length v) ps ws (lines_below v ps i) (file_below v w ws h))) in
     ap value e ∙ (value_at (file_levels f ws) (value (line_levels f ps)) ∙ ap₂ word (file_values g v w ws h) (ap value (lines_kept g v ps i)))
@@ -162,11 +162,11 @@ values_cond false xs ys = refl
 
 pub port_writes : PortWrites
 port_writes v w ps e d ws i j a k h l =
-    let g = write-gates (length v) ps e d ws in
+    let g = write_gates (length v) ps e d ws in
     let f = bit_at (settle g v) in
     let o = settle_obeys g v (write_sound (length v) ps e d ws (lines_below v ps i) (lines_below v (e ∷ []) j) a (file_below v w ws h)) in
     let r = writes f (length v) w ps e d ws l k (file_wide v w ws h) (lines_inverse g v ps i) (lines_inverse g v (e ∷ []) j).0 o in
     let fw = file_values g v w ws h in
-    words_values (settle g v) (write-results (length v) ps e d ws)
+    words_values (settle g v) (write_results (length v) ps e d ws)
     ∙ (ap values r ∙ (values_cond (f e.0) (set (file_levels f ws) (value (line_levels f ps)) (map f d)) (file_levels f ws)
     ∙ rw (values_set (file_levels f ws) (value (line_levels f ps)) (map f d), fw, kept g v e.0 j.0.0, lines_kept g v ps i, kept_word g v d a) refl))

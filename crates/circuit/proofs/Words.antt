@@ -3,7 +3,7 @@
 use Rattle.std.proofs.Common.{◌≡◌, ℕ, zero, suc, ◌+◌, Bool, true, false, cond, not, ◌&&◌, List, [], ◌∷◌, ◌++◌, map, length, sym, refl, ap, ◌∙◌, ap₂, arith}
 use Rattle.words.specs.Words.{nand, nands}
 use Rattle.words.proofs.Bits.{all_low}
-use Rattle.circuit.specs.Parts.{Gates, after, plus2, plus3, plus4, inverter-gates, inverter-results, nand-gates, nand-results, mux-gates, mux-results, invert-if-gates, invert-if-results, zero-gates, zero-result}
+use Rattle.circuit.specs.Parts.{Gates, after, plus2, plus3, plus4, inverter_gates, inverter_results, nand_gates, nand_results, mux_gates, mux_results, invert_if_gates, invert_if_results, zero_gates, zero_result}
 use Rattle.circuit.proofs.Settling.{Obeys}
 
 pub nand_self : (x : Bool) → nand x x ≡ not x
@@ -27,13 +27,13 @@ inverts_one f n a e = e ∙ nand_self (f a)
 pub and_two : (f : ℕ → Bool) (n m : ℕ) (x y : Bool) → f n ≡ nand x y → f m ≡ nand (f n) (f n) → f m ≡ x && y
 and_two f n m x y e d = rw (d, e) (and_bit x y)
 
-pub inverts : (f : ℕ → Bool) (n : ℕ) (xs : List ℕ) → Obeys f n (inverter-gates n xs) → map f (inverter-results n xs) ≡ map not (map f xs)
-unfolding inverter-gates inverter-results
+pub inverts : (f : ℕ → Bool) (n : ℕ) (xs : List ℕ) → Obeys f n (inverter_gates n xs) → map f (inverter_results n xs) ≡ map not (map f xs)
+unfolding inverter_gates inverter_results
 inverts f n [] s = refl
 inverts f n (a ∷ xs) s = ap₂ {C = List Bool} (λ x y. x ∷ y) (inverts_one f n a s.0) (inverts f (suc n) xs s.1)
 
-pub nands_are : (f : ℕ → Bool) (n : ℕ) (xs ys : List ℕ) → Obeys f n (nand-gates n xs ys) → map f (nand-results n xs ys) ≡ nands (map f xs) (map f ys)
-unfolding nand-gates nand-results
+pub nands_are : (f : ℕ → Bool) (n : ℕ) (xs ys : List ℕ) → Obeys f n (nand_gates n xs ys) → map f (nand_results n xs ys) ≡ nands (map f xs) (map f ys)
+unfolding nand_gates nand_results
 nands_are f n [] ys s = refl
 nands_are f n (a ∷ xs) [] s = refl
 nands_are f n (a ∷ xs) (b ∷ ys) s = ap₂ {C = List Bool} (λ x y. x ∷ y) s.0 (nands_are f (suc n) xs ys s.1)
@@ -57,8 +57,8 @@ pub cond_same : {A : Type 0} (s : Bool) (x : A) → x ≡ cond s x x
 cond_same true x = refl
 cond_same false x = refl
 
-pub chooses : (f : ℕ → Bool) (n s t : ℕ) (xs ys : List ℕ) → length xs ≡ length ys → f t ≡ not (f s) → Obeys f n (mux-gates n s t xs ys) → map f (mux-results n xs ys) ≡ cond (f s) (map f xs) (map f ys)
-unfolding mux-gates mux-results
+pub chooses : (f : ℕ → Bool) (n s t : ℕ) (xs ys : List ℕ) → length xs ≡ length ys → f t ≡ not (f s) → Obeys f n (mux_gates n s t xs ys) → map f (mux_results n xs ys) ≡ cond (f s) (map f xs) (map f ys)
+unfolding mux_gates mux_results
 chooses f n s t [] [] l e q = cond_same (f s) []
 chooses f n s t [] (b ∷ ys) l e q = absurd (omega arith)
 chooses f n s t (a ∷ xs) [] l e q = absurd (omega arith)
@@ -67,8 +67,8 @@ chooses f n s t (a ∷ xs) (b ∷ ys) l e q =
     let here : f (plus2 n) ≡ cond (f s) (f a) (f b) = rw (q.1.1.0, q.1.0, q.0, e) (mux_bit (f s) (f a) (f b)) in
     ap₂ {C = List Bool} (λ x y. x ∷ y) here ih ∙ sym (cond_cons (f s) (f a) (f b) (map f xs) (map f ys))
 
-pub mux_length : (n : ℕ) (xs ys : List ℕ) → length xs ≡ length ys → length (mux-results n xs ys) ≡ length xs
-unfolding mux-results
+pub mux_length : (n : ℕ) (xs ys : List ℕ) → length xs ≡ length ys → length (mux_results n xs ys) ≡ length xs
+unfolding mux_results
 mux_length n [] ys l = refl
 mux_length n (a ∷ xs) [] l = absurd (omega arith)
 mux_length n (a ∷ xs) (b ∷ ys) l = ap suc (mux_length (plus3 n) xs ys (omega arith))
@@ -93,8 +93,8 @@ either_bit false false true false e = refl
 either_bit false false false true e = refl
 either_bit false false false false e = refl
 
-pub chooses_either : (f : ℕ → Bool) (n s t : ℕ) (xs ys : List ℕ) → length xs ≡ length ys → f s && f t ≡ false → Obeys f n (mux-gates n s t xs ys) → map f (mux-results n xs ys) ≡ cond (f s) (map f xs) (cond (f t) (map f ys) (lows (map f xs)))
-unfolding mux-gates mux-results
+pub chooses_either : (f : ℕ → Bool) (n s t : ℕ) (xs ys : List ℕ) → length xs ≡ length ys → f s && f t ≡ false → Obeys f n (mux_gates n s t xs ys) → map f (mux_results n xs ys) ≡ cond (f s) (map f xs) (cond (f t) (map f ys) (lows (map f xs)))
+unfolding mux_gates mux_results
 chooses_either f n s t [] [] l e q = cond_same (f s) [] ∙ ap (cond (f s) []) (cond_same (f t) [])
 chooses_either f n s t [] (b ∷ ys) l e q = absurd (omega arith)
 chooses_either f n s t (a ∷ xs) [] l e q = absurd (omega arith)
@@ -119,8 +119,8 @@ cond_not : (s : Bool) (x : Bool) (xs : List Bool) → cond s (not x) x ∷ cond 
 cond_not true x xs = refl
 cond_not false x xs = refl
 
-pub inverts_if : (f : ℕ → Bool) (n s : ℕ) (xs : List ℕ) → Obeys f n (invert-if-gates n s xs) → map f (invert-if-results n xs) ≡ cond (f s) (map not (map f xs)) (map f xs)
-unfolding invert-if-gates invert-if-results
+pub inverts_if : (f : ℕ → Bool) (n s : ℕ) (xs : List ℕ) → Obeys f n (invert_if_gates n s xs) → map f (invert_if_results n xs) ≡ cond (f s) (map not (map f xs)) (map f xs)
+unfolding invert_if_gates invert_if_results
 inverts_if f n s [] q = cond_same (f s) []
 inverts_if f n s (a ∷ xs) q =
     let here : f (plus3 n) ≡ cond (f s) (not (f a)) (f a) = rw (q.1.1.1.0, q.1.1.0, q.1.0, q.0) (invert_bit (f s) (f a)) in
@@ -137,8 +137,8 @@ and_true : (z : Bool) → z ≡ z && true
 and_true true = refl
 and_true false = refl
 
-pub tests_zero : (f : ℕ → Bool) (n z : ℕ) (xs : List ℕ) → Obeys f n (zero-gates n z xs) → f (zero-result n z xs) ≡ f z && all_low (map f xs)
-unfolding zero-gates zero-result
+pub tests_zero : (f : ℕ → Bool) (n z : ℕ) (xs : List ℕ) → Obeys f n (zero_gates n z xs) → f (zero_result n z xs) ≡ f z && all_low (map f xs)
+unfolding zero_gates zero_result
 tests_zero f n z [] q = and_true (f z)
 tests_zero f n z (a ∷ xs) q =
     tests_zero f (plus3 n) (plus2 n) xs q.1.1.1 ∙ rw (q.1.1.0, q.1.0, q.0) (zero_bit (f z) (f a) (all_low (map f xs)))

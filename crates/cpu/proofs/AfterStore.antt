@@ -12,7 +12,7 @@ use Rattle.circuit.proofs.Settling.{Obeys, settle_obeys, kept}
 use Rattle.machine.specs.Machine.{Machine, Op, Store, Load, act, operation, fetched, place, following, register, execute, step, steps, begin}
 use Rattle.cpu.specs.Signals.{OP_0, OP_1, OP_2, OP_3, PHASE_1, PHASE_2, PHASE_3, LOADS, control_start, flop_count}
 use Rattle.cpu.specs.Control.{STORE, LOAD}
-use Rattle.cpu.specs.Cpu.{cpu, cpu-gates, cpu-next, cpu-pins}
+use Rattle.cpu.specs.Cpu.{cpu, cpu_gates, cpu_next, cpu_pins}
 use Rattle.cpu.specs.Stored.{flop, OnePhase, StoresAlone, behind_words, register_on, board_after, LoadAfterStore, FetchAfterStore}
 use Rattle.cpu.proofs.Drawing.{drawing, Staged, staged, sound}
 use Rattle.cpu.proofs.ControlLines.{Control, control}
@@ -58,8 +58,8 @@ unfolding cpu
 board_staged b l =
     let v = inputs b.read (front b.tape) b.state in
     let e : control_start ≡ length v = sym (inputs_length b.read (front b.tape) b.state l) in
-    let o : Obeys (bit_at (settle cpu-gates v)) (length v) cpu-gates = settle_obeys cpu-gates v (subst (λ n. SoundGates cpu-gates n) e sound) in
-    staged (bit_at (settle cpu-gates v)) (subst (λ n. Obeys (bit_at (settle cpu-gates v)) n cpu-gates) (sym e) o)
+    let o : Obeys (bit_at (settle cpu_gates v)) (length v) cpu_gates = settle_obeys cpu_gates v (subst (λ n. SoundGates cpu_gates n) e sound) in
+    staged (bit_at (settle cpu_gates v)) (subst (λ n. Obeys (bit_at (settle cpu_gates v)) n cpu_gates) (sym e) o)
 
 pub stores_alone : StoresAlone
 stores_alone b l z one e =
@@ -80,7 +80,7 @@ steps_more zero s = refl
 steps_more (suc t) s = steps_more t (step s)
 
 stepped : (s : Machine) (o : Op) → s.halted ≡ running → operation (fetched s).op ≡ o → step s ≡ act o (fetched s) s
-stepped s o z e = ap (λ h. Rattle.machine.specs.Machine.unless-halted h s (execute s)) z ∙ ap (λ x. act x (fetched s) s) e
+stepped s o z e = ap (λ h. Rattle.machine.specs.Machine.unless_halted h s (execute s)) z ∙ ap (λ x. act x (fetched s) s) e
 
 -- a machine that runs has the board ready
 is_ready : (s : Machine) (b : Board) → s.halted ≡ running → Stands s b → Ready s b

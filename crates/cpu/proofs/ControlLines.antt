@@ -5,7 +5,7 @@ use Rattle.words.specs.Words.{nand}
 use Rattle.circuit.proofs.Settling.{Obeys, obeys_at, gate_at}
 use Rattle.circuit.proofs.Words.{inverts_one, and_two, not_not}
 use Rattle.cpu.specs.Signals.{control_start, OP_0, OP_1, OP_2, OP_3, PHASE_1, PHASE_2, LOADS, NUMBER_6, NUMBER_7, NUMBER_8}
-use Rattle.cpu.specs.Control.{control-stage, NOT_OP_0, NOT_OP_1, NOT_OP_2, NOT_OP_3, FROM_4, BELOW_4, NOT_PHASE_1, NOT_PHASE_2, NOT_LOADS, NOT_8_TO_11, OPS_8_TO_11, NOT_ENDS_01, ENDS_01, NOT_ZERO, OP_ZERO, FIRST_IS_COUNTER, FIRST_IS_OPERAND, NOT_ODD_BELOW_4, ODD_BELOW_4, NOT_SUBTRACT, SUBTRACT, CARRY_IN, NOT_SECOND_IS_PORT, SECOND_IS_PORT, NOT_SECOND_IS_NUMBER, SECOND_IS_NUMBER, NOT_SIGN_6, SIGN_6, NOT_SIGN_7, SIGN_7, NOT_SIGN_8, SIGN_8, NOT_ENDS_00, ENDS_00, NOT_OP_STORE, OP_STORE, NOT_STORE, STORE, NOT_12_TO_15, OPS_12_TO_15, NOT_OP_OUT, OP_OUT, NOT_EMIT, EMIT, NOT_ENDS_11, ENDS_11, NOT_OP_IN, OP_IN, NOT_TAKE, TAKE, NOT_ENDS_10, ENDS_10, NOT_OP_JUMP, OP_JUMP, NOT_JUMP, JUMP, NOT_ODD_12_TO_15, ODD_12_TO_15, NOT_HALT_0, HALT_0, NOT_HIGH_12_TO_15, HIGH_12_TO_15, NOT_HALT_1, HALT_1, NOT_4_TO_7, OPS_4_TO_7, NOT_OP_LOAD, LOAD, NOT_JUMP_OR_IN, OP_WRITES, NOT_WRITE, WRITE}
+use Rattle.cpu.specs.Control.{control_stage, NOT_OP_0, NOT_OP_1, NOT_OP_2, NOT_OP_3, FROM_4, BELOW_4, NOT_PHASE_1, NOT_PHASE_2, NOT_LOADS, NOT_8_TO_11, OPS_8_TO_11, NOT_ENDS_01, ENDS_01, NOT_ZERO, OP_ZERO, FIRST_IS_COUNTER, FIRST_IS_OPERAND, NOT_ODD_BELOW_4, ODD_BELOW_4, NOT_SUBTRACT, SUBTRACT, CARRY_IN, NOT_SECOND_IS_PORT, SECOND_IS_PORT, NOT_SECOND_IS_NUMBER, SECOND_IS_NUMBER, NOT_SIGN_6, SIGN_6, NOT_SIGN_7, SIGN_7, NOT_SIGN_8, SIGN_8, NOT_ENDS_00, ENDS_00, NOT_OP_STORE, OP_STORE, NOT_STORE, STORE, NOT_12_TO_15, OPS_12_TO_15, NOT_OP_OUT, OP_OUT, NOT_EMIT, EMIT, NOT_ENDS_11, ENDS_11, NOT_OP_IN, OP_IN, NOT_TAKE, TAKE, NOT_ENDS_10, ENDS_10, NOT_OP_JUMP, OP_JUMP, NOT_JUMP, JUMP, NOT_ODD_12_TO_15, ODD_12_TO_15, NOT_HALT_0, HALT_0, NOT_HIGH_12_TO_15, HIGH_12_TO_15, NOT_HALT_1, HALT_1, NOT_4_TO_7, OPS_4_TO_7, NOT_OP_LOAD, LOAD, NOT_JUMP_OR_IN, OP_WRITES, NOT_WRITE, WRITE}
 
 -- an operation of 4 or more; zero; a difference is wanted
 abbrev pub at_least_4 : Bool → Bool → Bool
@@ -36,68 +36,68 @@ pub record Control (f : ℕ → Bool) (o0 o1 o2 o3 p1 p2 : Bool) : Type 0 where
   pub load : f LOAD ≡ (not o3 && o2) && (o1 && o0)
   pub write : f WRITE ≡ p2 && nand o3 (nand (o3 && not o2) o1)
 
-module _ (f : ℕ → Bool) (q : Obeys f control_start control-stage) where
+module _ (f : ℕ → Bool) (q : Obeys f control_start control_stage) where
   -- the gate that makes a line, by the line's number
-  gate : (n : ℕ) → ltb (n - control_start) 72 ≡ true → f (control_start + (n - control_start)) ≡ nand (f (gate_at control-stage (n - control_start)).0) (f (gate_at control-stage (n - control_start)).1)
-  unfolding control-stage
-  gate n e = obeys_at f control_start control-stage (n - control_start) q e
+  gate : (n : ℕ) → ltb (n - control_start) 72 ≡ true → f (control_start + (n - control_start)) ≡ nand (f (gate_at control_stage (n - control_start)).0) (f (gate_at control_stage (n - control_start)).1)
+  unfolding control_stage
+  gate n e = obeys_at f control_start control_stage (n - control_start) q e
 
   -- lines that are led on with their inverses
   pub not_op_0 : f NOT_OP_0 ≡ not (f OP_0)
-  unfolding control-stage
+  unfolding control_stage
   not_op_0 = inverts_one f NOT_OP_0 OP_0 (gate NOT_OP_0 refl)
 
   pub not_op_1 : f NOT_OP_1 ≡ not (f OP_1)
-  unfolding control-stage
+  unfolding control_stage
   not_op_1 = inverts_one f NOT_OP_1 OP_1 (gate NOT_OP_1 refl)
 
   pub not_op_2 : f NOT_OP_2 ≡ not (f OP_2)
-  unfolding control-stage
+  unfolding control_stage
   not_op_2 = inverts_one f NOT_OP_2 OP_2 (gate NOT_OP_2 refl)
 
   pub not_op_3 : f NOT_OP_3 ≡ not (f OP_3)
-  unfolding control-stage
+  unfolding control_stage
   not_op_3 = inverts_one f NOT_OP_3 OP_3 (gate NOT_OP_3 refl)
 
   pub not_from_4 : f BELOW_4 ≡ not (f FROM_4)
-  unfolding control-stage
+  unfolding control_stage
   not_from_4 = inverts_one f BELOW_4 FROM_4 (gate BELOW_4 refl)
 
   pub not_phase_1 : f NOT_PHASE_1 ≡ not (f PHASE_1)
-  unfolding control-stage
+  unfolding control_stage
   not_phase_1 = inverts_one f NOT_PHASE_1 PHASE_1 (gate NOT_PHASE_1 refl)
 
   pub not_phase_2 : f NOT_PHASE_2 ≡ not (f PHASE_2)
-  unfolding control-stage
+  unfolding control_stage
   not_phase_2 = inverts_one f NOT_PHASE_2 PHASE_2 (gate NOT_PHASE_2 refl)
 
   pub not_loads : f NOT_LOADS ≡ not (f LOADS)
-  unfolding control-stage
+  unfolding control_stage
   not_loads = inverts_one f NOT_LOADS LOADS (gate NOT_LOADS refl)
 
   pub not_first_is_counter : f FIRST_IS_OPERAND ≡ not (f FIRST_IS_COUNTER)
-  unfolding control-stage
+  unfolding control_stage
   not_first_is_counter = inverts_one f FIRST_IS_OPERAND FIRST_IS_COUNTER (gate FIRST_IS_OPERAND refl)
 
   pub not_jump : f NOT_JUMP ≡ not (f JUMP)
-  unfolding control-stage
+  unfolding control_stage
   not_jump = sym (ap not (inverts_one f JUMP NOT_JUMP (gate JUMP refl)) ∙ not_not (f NOT_JUMP))
 
   -- the number's bits 6, 7 and 8, which count only for zero
   pub sign_6 : f SIGN_6 ≡ f NUMBER_6 && f OP_ZERO
-  unfolding control-stage
+  unfolding control_stage
   sign_6 = and_two f NOT_SIGN_6 SIGN_6 (f NUMBER_6) (f OP_ZERO) (gate NOT_SIGN_6 refl) (gate SIGN_6 refl)
 
   pub sign_7 : f SIGN_7 ≡ f NUMBER_7 && f OP_ZERO
-  unfolding control-stage
+  unfolding control_stage
   sign_7 = and_two f NOT_SIGN_7 SIGN_7 (f NUMBER_7) (f OP_ZERO) (gate NOT_SIGN_7 refl) (gate SIGN_7 refl)
 
   pub sign_8 : f SIGN_8 ≡ f NUMBER_8 && f OP_ZERO
-  unfolding control-stage
+  unfolding control_stage
   sign_8 = and_two f NOT_SIGN_8 SIGN_8 (f NUMBER_8) (f OP_ZERO) (gate NOT_SIGN_8 refl) (gate SIGN_8 refl)
 
   pub control : (o0 o1 o2 o3 p1 p2 : Bool) → f OP_0 ≡ o0 → f OP_1 ≡ o1 → f OP_2 ≡ o2 → f OP_3 ≡ o3 → f PHASE_1 ≡ p1 → f PHASE_2 ≡ p2 → Control f o0 o1 o2 o3 p1 p2
-  unfolding control-stage
+  unfolding control_stage
   control o0 o1 o2 o3 p1 p2 e0 e1 e2 e3 h1 h2 =
       let n0 : f NOT_OP_0 ≡ not o0 = inverts_one f NOT_OP_0 OP_0 (gate NOT_OP_0 refl) ∙ ap not e0 in
       let n1 : f NOT_OP_1 ≡ not o1 = inverts_one f NOT_OP_1 OP_1 (gate NOT_OP_1 refl) ∙ ap not e1 in

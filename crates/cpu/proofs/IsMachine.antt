@@ -8,7 +8,7 @@ use Rattle.circuit.specs.Circuit.{Circuit, Board, tick, ticks, power_on, board_r
 use Rattle.circuit.proofs.Ticking.{ticks_add, shown_stays, halted_stays, board_grows}
 use Rattle.machine.specs.Machine.{Machine, step, steps, begin, machine_run, seen_machine}
 use Rattle.drawing.specs.Drawing.{HaltedAlike, IsMachine, course_cycles}
-use Rattle.cpu.specs.Cpu.{cpu-flops, cpu}
+use Rattle.cpu.specs.Cpu.{cpu_flops, cpu}
 use Rattle.cpu.proofs.Drawing.{whole}
 use Rattle.cpu.proofs.Board.{held}
 use Rattle.cpu.proofs.States.{WordsIn, Stands}
@@ -17,7 +17,7 @@ use Rattle.cpu.proofs.Simulation.{instruction}
 
 -- at power on the board is in the third cycle of an instruction that wrote nothing
 stands_first : (mem tape : List ℕ) → IsMemory mem → IsTape tape → Stands (begin mem tape) (tick cpu (power_on cpu mem tape))
-unfolding cpu cpu-flops held
+unfolding cpu cpu_flops held
 stands_first mem tape hm ht =
     ends_at (begin mem tape) (replicate 8 0) 0 0 0 false false 0 (power_on cpu mem tape)
     (record { pc_below = omega arith; eight = refl; registers_below = (omega arith, (omega arith, (omega arith, (omega arith, (omega arith, (omega arith, (omega arith, (omega arith, tt)))))))); mem_below = hm.1; tape_below = ht; mem_long = hm.0 })

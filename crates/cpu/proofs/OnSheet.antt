@@ -7,7 +7,7 @@ use Rattle.circuit.specs.Sheet.{drawn, levels, pairs, sheet_size}
 use Rattle.circuit.specs.Parts.{Gates}
 use Rattle.drawing.specs.Drawing.{IsMachine, course_cycles}
 use Rattle.cpu.specs.Signals.{flop_count, gate_count}
-use Rattle.cpu.specs.Cpu.{cpu, cpu-flops, cpu-gates, cpu-next, cpu-pins}
+use Rattle.cpu.specs.Cpu.{cpu, cpu_flops, cpu_gates, cpu_next, cpu_pins}
 use Rattle.cpu.specs.Ink.{ink, Drew}
 use Rattle.cpu.specs.Promise.{Draws, sheet_room}
 use Rattle.cpu.proofs.Drawing.{drawing, gates_counted}
@@ -33,27 +33,27 @@ on_sheet gs f k flops next pins more sheet lf lg ln lp e =
     let t3 : take pin_count (drop (2 * f + 2 * k) sheet) ≡ pins = rw d2 (take_at pins more pin_count lp) in
     rw (t0, t1, t2, t3, pairs_ink gs) refl
 
-flops_all : length cpu-flops ≡ flop_count
+flops_all : length cpu_flops ≡ flop_count
 unfolding drawing
 flops_all = refl
 
-next_all : length cpu-next ≡ flop_count
+next_all : length cpu_next ≡ flop_count
 unfolding drawing
 next_all = refl
 
-pins_all : length cpu-pins ≡ pin_count
+pins_all : length cpu_pins ≡ pin_count
 unfolding drawing
 pins_all = refl
 
 -- all numbers of the drawing
 abbrev pub cpu_numbers : List ℕ
-cpu_numbers = cpu-flops ++ (ink cpu-gates ++ (cpu-next ++ cpu-pins))
+cpu_numbers = cpu_flops ++ (ink cpu_gates ++ (cpu_next ++ cpu_pins))
 
 numbers_all : length cpu_numbers ≡ sheet_size flop_count gate_count
 unfolding drawing
 numbers_all = refl
 
-cpu_is : record { flops = levels cpu-flops; gates = cpu-gates; next = cpu-next; pins = cpu-pins } ≡ cpu
+cpu_is : record { flops = levels cpu_flops; gates = cpu_gates; next = cpu_next; pins = cpu_pins } ≡ cpu
 unfolding cpu
 cpu_is = refl
 
@@ -62,11 +62,11 @@ draws_machine before after room d =
     let n = length cpu_numbers in
     let more = drop (0 + n) before in
     let all : after ≡ cpu_numbers ++ more = sym (take-append-drop (0 + n) after) ∙ ap₂ {C = List ℕ} (λ x y. x ++ y) d.put d.kept in
-    let apart : cpu_numbers ++ more ≡ cpu-flops ++ (ink cpu-gates ++ (cpu-next ++ (cpu-pins ++ more))) =
-    append_assoc cpu-flops (ink cpu-gates ++ (cpu-next ++ cpu-pins)) more
-    ∙ ap {B = List ℕ} (λ r. cpu-flops ++ r) (append_assoc (ink cpu-gates) (cpu-next ++ cpu-pins) more
-    ∙ ap {B = List ℕ} (λ r. ink cpu-gates ++ r) (append_assoc cpu-next cpu-pins more)) in
-    let held : drawn flop_count gate_count after ≡ cpu = on_sheet cpu-gates flop_count gate_count cpu-flops cpu-next cpu-pins more after flops_all gates_counted next_all pins_all (all ∙ apart) ∙ cpu_is in
+    let apart : cpu_numbers ++ more ≡ cpu_flops ++ (ink cpu_gates ++ (cpu_next ++ (cpu_pins ++ more))) =
+    append_assoc cpu_flops (ink cpu_gates ++ (cpu_next ++ cpu_pins)) more
+    ∙ ap {B = List ℕ} (λ r. cpu_flops ++ r) (append_assoc (ink cpu_gates) (cpu_next ++ cpu_pins) more
+    ∙ ap {B = List ℕ} (λ r. ink cpu_gates ++ r) (append_assoc cpu_next cpu_pins more)) in
+    let held : drawn flop_count gate_count after ≡ cpu = on_sheet cpu_gates flop_count gate_count cpu_flops cpu_next cpu_pins more after flops_all gates_counted next_all pins_all (all ∙ apart) ∙ cpu_is in
     let past : 0 + n ≡ sheet_size flop_count gate_count = let e = numbers_all in omega arith in
     record {
       is_machine = rw held cpu_is_machine;

@@ -243,8 +243,8 @@ abbrev pub WRITE : ℕ
 WRITE = 289
 
 -- The gates, in the order of the names above; behind each the line that it makes.
-unfoldable pub control-stage : Gates
-control-stage =
+unfoldable pub control_stage : Gates
+control_stage =
     (OP_0, OP_0) ∷  -- NOT-OP-0
     (OP_1, OP_1) ∷  -- NOT-OP-1
     (OP_2, OP_2) ∷  -- NOT-OP-2

@@ -62,8 +62,8 @@ OP_3 = 17
 
 -- Flip-flops: the program counter; eight registers; the operand, which is register a; the result, and the number of the
 -- register that takes it; the phase, of which one line is high; whether a register is written, and whether from memory.
-unfoldable pub PROGRAM-COUNTER : List ℕ
-PROGRAM-COUNTER = from 34 16
+unfoldable pub PROGRAM_COUNTER : List ℕ
+PROGRAM_COUNTER = from 34 16
 
 unfoldable pub REGISTERS : List (List ℕ)
 REGISTERS = from 50 16 ∷ from 66 16 ∷ from 82 16 ∷ from 98 16 ∷ from 114 16 ∷ from 130 16 ∷ from 146 16 ∷ from 162 16 ∷ []

@@ -1,6 +1,6 @@
 // The control stage: its gates as a table, in the order of the lines that they make.
 ghost use Rattle.std.specs.Prelude.{ℕ, ◌≤◌, length};
-ghost use Rattle.cpu.specs.Control.{control-stage};
+ghost use Rattle.cpu.specs.Control.{control_stage};
 ghost use Rattle.cpu.specs.Ink.{ink, Drew};
 
 use crate::parts::put_gates;
@@ -84,7 +84,7 @@ const CONTROL_GATES: [(u32, u32); 72] = [
 // The control lines, from the operation's bits and the phases.
 pub(crate) fn draw_control(sheet: &mut [u32])
     requires room { 144 ≤ length sheet.old }
-    ensures { Drew sheet.old 0 (ink control-stage) sheet.new }
+    ensures { Drew sheet.old 0 (ink control_stage) sheet.new }
 {
     put_gates(sheet, 0, &CONTROL_GATES);
 }

@@ -1,18 +1,18 @@
 // What stands on the sheet around the gates: the flip-flops' values at power on before them, the signals that the
 // flip-flops hold next and the pins behind them.
 ghost use Rattle.std.specs.Prelude.{ℕ, ◌≤◌, length};
-ghost use Rattle.cpu.specs.Cpu.{cpu-flops, cpu-next, cpu-pins};
+ghost use Rattle.cpu.specs.Cpu.{cpu_flops, cpu_next, cpu_pins};
 ghost use Rattle.cpu.specs.Ink.{Drew};
 
 use crate::numbers::{put_numbers, put_words};
 use crate::parts::every;
 use crate::signals::*;
-use crate::words::port;
+use crate::word_signals::port;
 
 // At power on only phase 3 is high.
 pub(crate) fn put_power_on(sheet: &mut [u32])
     requires room { 184 ≤ length sheet.old }
-    ensures { Drew sheet.old 0 cpu-flops sheet.new }
+    ensures { Drew sheet.old 0 cpu_flops sheet.new }
 {
     let mut values = [0; 184];
     values[(PHASE_3 - COUNTER_0) as usize] = 1;
@@ -26,7 +26,7 @@ const NEXT_LINES: [u32; 8] = [11, 12, 13, PHASE_3, PHASE_1, PHASE_2, WRITE, LOAD
 // What each flip-flop holds in the next cycle.
 pub(crate) fn put_next(sheet: &mut [u32])
     requires room { 184 ≤ length sheet.old }
-    ensures { Drew sheet.old 0 cpu-next sheet.new }
+    ensures { Drew sheet.old 0 cpu_next sheet.new }
 {
     let kept = AT_WRITE + 30;
     put_words(
@@ -51,7 +51,7 @@ pub(crate) fn put_next(sheet: &mut [u32])
 // The pins: address, datum, store, emit, take, and how it halts.
 pub(crate) fn put_pins(sheet: &mut [u32])
     requires room { 37 ≤ length sheet.old }
-    ensures { Drew sheet.old 0 cpu-pins sheet.new }
+    ensures { Drew sheet.old 0 cpu_pins sheet.new }
 {
     put_words(sheet, &[every(AT_ADDRESS + 2, 3), port()]);
     put_numbers(&mut sheet[32..], 0, &[STORE, EMIT, TAKE, HALT_0, HALT_1]);

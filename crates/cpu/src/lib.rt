@@ -10,7 +10,7 @@ pub mod places;
 mod ports;
 mod signals;
 mod stages;
-mod words;
+mod word_signals;
 
 ghost use Rattle.drawing.specs.Drawing.{IsMachine, course_cycles};
 ghost use Rattle.cpu.specs.Cpu.{cpu};

@@ -1,8 +1,8 @@
 // The loops that draw one part each, at the front of the sheet that they are lent. The caller lends the part of its sheet
 // that begins where the part's gates belong.
 ghost use Rattle.std.specs.Prelude.{◌≡◌, ℕ, ◌+◌, ◌*◌, ◌^◌, ◌<◌, ◌≤◌, [], ◌∷◌, length};
-ghost use Rattle.circuit.specs.Parts.{inverter-gates, nand-gates, mux-gates, invert-if-gates, zero-gates};
-ghost use Rattle.circuit.specs.PartsAdder.{adder-gates};
+ghost use Rattle.circuit.specs.Parts.{inverter_gates, nand_gates, mux_gates, invert_if_gates, zero_gates};
+ghost use Rattle.circuit.specs.PartsAdder.{adder_gates};
 ghost use Rattle.cpu.specs.Ink.{ink, Drew, spaced};
 
 // One gate, by the two signals whose NAND it is.
@@ -53,7 +53,7 @@ pub(crate) fn every(first: u32, step: u32) -> [u32; 16]
 // Inverters.
 pub(crate) fn draw_inverters(sheet: &mut [u32], first: u32, xs: &[u32])
     requires room { 2 * length xs.now ≤ length sheet.old }
-    ensures { Drew sheet.old 0 (ink (inverter-gates first xs.now)) sheet.new }
+    ensures { Drew sheet.old 0 (ink (inverter_gates first xs.now)) sheet.new }
 {
     for i in 0..xs.len() {
         put_gates(sheet, 2 * i, &[(xs[i], xs[i])]);
@@ -64,7 +64,7 @@ pub(crate) fn draw_inverters(sheet: &mut [u32], first: u32, xs: &[u32])
 pub(crate) fn draw_nands(sheet: &mut [u32], first: u32, xs: &[u32], ys: &[u32])
     requires same { length xs.now ≡ length ys.now }
     requires room { 2 * length xs.now ≤ length sheet.old }
-    ensures { Drew sheet.old 0 (ink (nand-gates first xs.now ys.now)) sheet.new }
+    ensures { Drew sheet.old 0 (ink (nand_gates first xs.now ys.now)) sheet.new }
 {
     for i in 0..xs.len() {
         put_gates(sheet, 2 * i, &[(xs[i], ys[i])]);
@@ -83,7 +83,7 @@ pub(crate) fn draw_mux(
     requires same { length xs.now ≡ length ys.now }
     requires room { 6 * length xs.now ≤ length sheet.old }
     requires small { first + 3 * length xs.now < 2 ^ 32 }
-    ensures { Drew sheet.old 0 (ink (mux-gates first select unselect xs.now ys.now)) sheet.new }
+    ensures { Drew sheet.old 0 (ink (mux_gates first select unselect xs.now ys.now)) sheet.new }
 {
     let mut n = first;
     for i in 0..xs.len() {
@@ -100,7 +100,7 @@ pub(crate) fn draw_mux(
 pub(crate) fn draw_invert_if(sheet: &mut [u32], first: u32, line: u32, xs: &[u32])
     requires room { 8 * length xs.now ≤ length sheet.old }
     requires small { first + 4 * length xs.now < 2 ^ 32 }
-    ensures { Drew sheet.old 0 (ink (invert-if-gates first line xs.now)) sheet.new }
+    ensures { Drew sheet.old 0 (ink (invert_if_gates first line xs.now)) sheet.new }
 {
     let mut n = first;
     for i in 0..xs.len() {
@@ -118,7 +118,7 @@ pub(crate) fn draw_adder(sheet: &mut [u32], first: u32, xs: &[u32], ys: &[u32], 
     requires same { length xs.now ≡ length ys.now }
     requires room { 18 * length xs.now ≤ length sheet.old }
     requires small { first + 9 * length xs.now < 2 ^ 32 }
-    ensures { Drew sheet.old 0 (ink (adder-gates first xs.now ys.now carry_in)) sheet.new }
+    ensures { Drew sheet.old 0 (ink (adder_gates first xs.now ys.now carry_in)) sheet.new }
 {
     let mut n = first;
     let mut carry = carry_in;
@@ -149,7 +149,7 @@ pub(crate) fn draw_adder(sheet: &mut [u32], first: u32, xs: &[u32], ys: &[u32], 
 pub(crate) fn draw_zero_test(sheet: &mut [u32], first: u32, high: u32, xs: &[u32])
     requires room { 6 * length xs.now ≤ length sheet.old }
     requires small { first + 3 * length xs.now < 2 ^ 32 }
-    ensures { Drew sheet.old 0 (ink (zero-gates first high xs.now)) sheet.new }
+    ensures { Drew sheet.old 0 (ink (zero_gates first high xs.now)) sheet.new }
 {
     let mut n = first;
     let mut so_far = high;

@@ -1,6 +1,6 @@
 // The loops that draw the ports of a register file of words of sixteen bits, at the front of the sheet that they are lent.
 ghost use Rattle.std.specs.Prelude.{◌≡◌, ℕ, ◌+◌, ◌*◌, ◌^◌, ◌<◌, ◌≤◌, length};
-ghost use Rattle.circuit.specs.PartsRegisters.{level-gates, split-gates, keep-gates};
+ghost use Rattle.circuit.specs.PartsRegisters.{level_gates, split_gates, keep_gates};
 ghost use Rattle.cpu.specs.Ink.{ink, Drew};
 
 use crate::parts::{draw_mux, put_gates};
@@ -15,7 +15,7 @@ pub(crate) fn draw_level(
 )
     requires room { 48 * length words.now ≤ length sheet.old }
     requires small { first + 24 * length words.now < 2 ^ 32 }
-    ensures { Drew sheet.old 0 (ink (level-gates first select unselect words.now)) sheet.new }
+    ensures { Drew sheet.old 0 (ink (level_gates first select unselect words.now)) sheet.new }
 {
     let mut n = first;
     for j in 0..words.len() / 2 {
@@ -41,7 +41,7 @@ pub(crate) fn draw_split(
 )
     requires room { 8 * length lines.now ≤ length sheet.old }
     requires small { first + 4 * length lines.now < 2 ^ 32 }
-    ensures { Drew sheet.old 0 (ink (split-gates first select unselect lines.now)) sheet.new }
+    ensures { Drew sheet.old 0 (ink (split_gates first select unselect lines.now)) sheet.new }
 {
     let mut n = first;
     for i in 0..lines.len() {
@@ -66,7 +66,7 @@ pub(crate) fn draw_keep(
     requires same { length lines.now ≡ length words.now }
     requires room { 96 * length words.now ≤ length sheet.old }
     requires small { first + 48 * length words.now < 2 ^ 32 }
-    ensures { Drew sheet.old 0 (ink (keep-gates first lines.now word.now words.now)) sheet.new }
+    ensures { Drew sheet.old 0 (ink (keep_gates first lines.now word.now words.now)) sheet.new }
 {
     let mut n = first;
     for i in 0..words.len() {

@@ -3,7 +3,7 @@
 // sheet that begins where the stage before it ended; a gate takes two numbers.
 ghost use Rattle.std.specs.Prelude.{ℕ, ◌≤◌, [], ◌∷◌, length};
 ghost use Rattle.circuit.specs.Parts.{join};
-ghost use Rattle.cpu.specs.Stages.{late-index-stage, index-stage, select-stage, read-stage, first-stage, second-stage, addend-stage, adder-stage, nand-stage, less-stage, zero-stage, nand-or-less-stage, half-or-low-stage, below-4-stage, from-4-stage, below-8-stage, from-8-stage, result-stage, written-stage, write-select-stage, write-stage, branch-stage, jump-stage, counter-stage, address-stage};
+ghost use Rattle.cpu.specs.Stages.{late_index_stage, index_stage, select_stage, read_stage, first_stage, second_stage, addend_stage, adder_stage, nand_stage, less_stage, zero_stage, nand_or_less_stage, half_or_low_stage, below_4_stage, from_4_stage, below_8_stage, from_8_stage, result_stage, written_stage, write_select_stage, write_stage, branch_stage, jump_stage, counter_stage, address_stage};
 ghost use Rattle.cpu.specs.Ink.{ink, Drew};
 
 use crate::parts::{
@@ -12,7 +12,7 @@ use crate::parts::{
 };
 use crate::ports::{draw_keep, draw_level, draw_split};
 use crate::signals::*;
-use crate::words::{operand, port, program_counter, registers, sum};
+use crate::word_signals::{operand, port, program_counter, registers, sum};
 
 // A branch is taken in phase 2 where the operation is zero and the port is 0; the counter also takes the sum in phase 1.
 const BRANCH_GATES: [(u32, u32); 5] = [
@@ -26,7 +26,7 @@ const BRANCH_GATES: [(u32, u32); 5] = [
 // The register that is read: a in phase 1, then b, or d for operations from 4 on. The port is a tree of seven choices.
 pub(crate) fn draw_read(sheet: &mut [u32])
     requires room { 714 ≤ length sheet.old }
-    ensures { Drew sheet.old 0 (ink (join (late-index-stage ∷ index-stage ∷ select-stage ∷ read-stage ∷ []))) sheet.new }
+    ensures { Drew sheet.old 0 (ink (join (late_index_stage ∷ index_stage ∷ select_stage ∷ read_stage ∷ []))) sheet.new }
 {
     let r = AT_READ;
     let eight = registers();
@@ -49,7 +49,7 @@ pub(crate) fn draw_read(sheet: &mut [u32])
 // The adder with its two words, NAND, less, and the zero test.
 pub(crate) fn draw_arithmetic(sheet: &mut [u32])
     requires room { 738 ≤ length sheet.old }
-    ensures { Drew sheet.old 0 (ink (join (first-stage ∷ second-stage ∷ addend-stage ∷ adder-stage ∷ nand-stage ∷ less-stage ∷ zero-stage ∷ []))) sheet.new }
+    ensures { Drew sheet.old 0 (ink (join (first_stage ∷ second_stage ∷ addend_stage ∷ adder_stage ∷ nand_stage ∷ less_stage ∷ zero_stage ∷ []))) sheet.new }
 {
     let counter = program_counter();
     let operand = operand();
@@ -84,7 +84,7 @@ pub(crate) fn draw_arithmetic(sheet: &mut [u32])
 // The result, chosen by the operation's bits: a tree of seven choices.
 pub(crate) fn draw_result(sheet: &mut [u32])
     requires room { 672 ≤ length sheet.old }
-    ensures { Drew sheet.old 0 (ink (join (nand-or-less-stage ∷ half-or-low-stage ∷ below-4-stage ∷ from-4-stage ∷ below-8-stage ∷ from-8-stage ∷ result-stage ∷ []))) sheet.new }
+    ensures { Drew sheet.old 0 (ink (join (nand_or_less_stage ∷ half_or_low_stage ∷ below_4_stage ∷ from_4_stage ∷ below_8_stage ∷ from_8_stage ∷ result_stage ∷ []))) sheet.new }
 {
     let nanded = every(AT_NAND, 1);
     let sum = sum();
@@ -114,7 +114,7 @@ pub(crate) fn draw_result(sheet: &mut [u32])
 // The write port: the word from memory or the result, into the register that was kept.
 pub(crate) fn draw_write(sheet: &mut [u32])
     requires room { 928 ≤ length sheet.old }
-    ensures { Drew sheet.old 0 (ink (join (written-stage ∷ write-select-stage ∷ write-stage ∷ []))) sheet.new }
+    ensures { Drew sheet.old 0 (ink (join (written_stage ∷ write_select_stage ∷ write_stage ∷ []))) sheet.new }
 {
     let w = AT_WRITE;
     let instruction = every(INSTRUCTION_0, 1);
@@ -145,7 +145,7 @@ pub(crate) fn draw_write(sheet: &mut [u32])
 // Where to go on, and the address: the sum in phase 1 and where a branch is taken, the operand at a jump, else no change.
 pub(crate) fn draw_counter(sheet: &mut [u32])
     requires room { 298 ≤ length sheet.old }
-    ensures { Drew sheet.old 0 (ink (join (branch-stage ∷ jump-stage ∷ counter-stage ∷ address-stage ∷ []))) sheet.new }
+    ensures { Drew sheet.old 0 (ink (join (branch_stage ∷ jump_stage ∷ counter_stage ∷ address_stage ∷ []))) sheet.new }
 {
     let operand = operand();
     let counter = program_counter();

@@ -1,7 +1,7 @@
 use Rattle.std.proofs.Common.{◌≡◌, ℕ, List, [], ◌∷◌, ◌++◌, refl}
 use Rattle.cpu.specs.Signals.{FIELD_D, PHASE_1, PHASE_2, PHASE_3}
 use Rattle.cpu.specs.Control.{LOAD, WRITE}
-use Rattle.cpu.specs.Stages.{PORT, NEXT-RESULT, NEXT-REGISTERS, NEXT-COUNTER}
+use Rattle.cpu.specs.Stages.{PORT, NEXT_RESULT, NEXT_REGISTERS, NEXT_COUNTER}
 use Rattle.cpu.specs.Cpu.{flat}
 use Rattle.cpu.specs.Ink.{Drew}
 use Rattle.cpu.proofs.Drawing.{drawing}
@@ -15,7 +15,7 @@ returns c =
     let w1 = c.put_words.new.sheet in
     let drawn-words : List (List ℕ) =
     c.every.result ∷ (c.every-2.result ∷ (c.every-3.result ∷ (c.every-4.result ∷ (c.every-5.result ∷ (c.every-6.result ∷ (c.every-7.result ∷ (c.every-8.result ∷ (c.every-9.result ∷ (c.port.result ∷ (c.every-10.result ∷ [])))))))))) in
-    let words : List ℕ = NEXT-COUNTER ++ (flat NEXT-REGISTERS ++ (PORT ++ NEXT-RESULT)) in
+    let words : List ℕ = NEXT_COUNTER ++ (flat NEXT_REGISTERS ++ (PORT ++ NEXT_RESULT)) in
     let same : flat drawn-words ≡ words =
     rw (c.every.ensures, c.every-2.ensures, c.every-3.ensures, c.every-4.ensures, c.every-5.ensures, c.every-6.ensures, c.every-7.ensures, c.every-8.ensures, c.every-9.ensures, c.port.ensures, c.every-10.ensures) refl in
     let d1 : Drew w0 0 words w1 = drew_by w0 0 (flat drawn-words) words w1 same c.put_words.ensures in

@@ -1,8 +1,8 @@
 use Rattle.std.proofs.Common.{◌≡◌, ◌+◌, ◌-◌, ◌*◌, ◌/◌, ◌<◌, ◌≤◌, [], ◌∷◌, ◌++◌, length, get_or, take, drop, sym, ap, ◌∙◌, arith}
 use borrow.Rule.Slice.PartMut.{put_mid}
 use Rattle.std.proofs.lemmas.List.{length-drop, take_rest}
-use Rattle.circuit.specs.Parts.{mux-gates}
-use Rattle.circuit.specs.PartsRegisters.{level-gates}
+use Rattle.circuit.specs.Parts.{mux_gates}
+use Rattle.circuit.specs.PartsRegisters.{level_gates}
 use Rattle.cpu.specs.Ink.{ink}
 use Rattle.cpu.proofs.Inking.{begun_more, begun_all, drew_part}
 use Rattle.cpu.proofs.Loops.{mux_size}
@@ -37,11 +37,11 @@ loop-j-preserved c =
     let upper : length y ≡ 16 = c.told-words (2 * j + 1) next in
     let lower : length x ≡ 16 = c.told-words (2 * j) (omega arith) in
     let size = mux_size n s t y x (upper ∙ sym lower) in
-    let m : 96 * j + length (ink (mux-gates n s t y x)) ≡ 96 * (j + 1) = omega arith in
+    let m : 96 * j + length (ink (mux_gates n s t y x)) ≡ 96 * (j + 1) = omega arith in
     let room : 96 * j ≤ length w = omega arith in
     let num : c.loop-j.n + 48 ≡ c.args.first + 48 * (c.loop-j.j + 1) = omega (arith, c.loop-j.invariant.1) in (
-      begun_more c.args.sheet.now 0 (ink (level-gates c.args.first s t ws)) w (96 * j) (ink (level-gates n s t (drop (2 * j) ws))) (ink (mux-gates n s t y x)) (ink (level-gates (n + 48) s t (drop (2 * (j + 1)) ws))) (put_mid (96 * j) (length w - 96 * j) w c.draw_mux.new.sheet) (96 * (j + 1))
-          c.loop-j.invariant.0 (level_more n s t ws j next c.told-words) (drew_part w (96 * j) (ink (mux-gates n s t y x)) c.draw_mux.new.sheet room c.draw_mux.ensures) m,
+      begun_more c.args.sheet.now 0 (ink (level_gates c.args.first s t ws)) w (96 * j) (ink (level_gates n s t (drop (2 * j) ws))) (ink (mux_gates n s t y x)) (ink (level_gates (n + 48) s t (drop (2 * (j + 1)) ws))) (put_mid (96 * j) (length w - 96 * j) w c.draw_mux.new.sheet) (96 * (j + 1))
+          c.loop-j.invariant.0 (level_more n s t ws j next c.told-words) (drew_part w (96 * j) (ink (mux_gates n s t y x)) c.draw_mux.new.sheet room c.draw_mux.ensures) m,
       num,
     )
 
@@ -53,7 +53,7 @@ returns c =
     let j = c.loop-j.j in
     let n = c.loop-j.n in
     let size = level_size c.args.first s t ws c.told-words in
-    let m : 96 * j ≡ 0 + length (ink (level-gates c.args.first s t ws)) = omega arith in
+    let m : 96 * j ≡ 0 + length (ink (level_gates c.args.first s t ws)) = omega arith in
     let few : length (drop (2 * j) ws) ≤ 1 = omega (arith, length-drop (2 * j) ws) in
-    begun_all c.args.sheet.now 0 (ink (level-gates c.args.first s t ws)) c.loop-j.sheet (96 * j) (ink (level-gates n s t (drop (2 * j) ws)))
+    begun_all c.args.sheet.now 0 (ink (level_gates c.args.first s t ws)) c.loop-j.sheet (96 * j) (ink (level_gates n s t (drop (2 * j) ws)))
     c.loop-j.invariant.0 (ap ink (level_none n s t (drop (2 * j) ws) few)) m

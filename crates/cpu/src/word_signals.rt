@@ -1,13 +1,13 @@
 // Words of the drawing that several stages use: each a list of sixteen signals, lowest bit first.
 ghost use Rattle.std.specs.Prelude.{◌≡◌};
-ghost use Rattle.cpu.specs.Signals.{PROGRAM-COUNTER, OPERAND, REGISTERS};
+ghost use Rattle.cpu.specs.Signals.{PROGRAM_COUNTER, OPERAND, REGISTERS};
 ghost use Rattle.cpu.specs.Stages.{PORT, SUM};
 
 use crate::parts::every;
 use crate::signals::*;
 
 pub(crate) fn program_counter() -> [u32; 16]
-    ensures { result ≡ PROGRAM-COUNTER }
+    ensures { result ≡ PROGRAM_COUNTER }
 {
     every(COUNTER_0, 1)
 }

@@ -1,5 +1,5 @@
 use Rattle.cpu.proofs.Drawing.{drawing}
-use Rattle.cpu.proofs.words.port.Goals as goal
+use Rattle.cpu.proofs.word_signals.operand.Goals as goal
 
 pub returns : goal.returns
 unfolding drawing

@@ -1,6 +1,6 @@
 use Rattle.std.proofs.Common.{refl}
 use Rattle.cpu.specs.Signals.{REGISTERS}
-use Rattle.cpu.proofs.words.registers.Goals as goal
+use Rattle.cpu.proofs.word_signals.registers.Goals as goal
 
 pub returns : goal.returns
 unfolding REGISTERS
