@@ -8,7 +8,8 @@ use anyhow::anyhow;
 use compiler::{Made, build};
 use listing::write_listing;
 use std::env;
-use std::io::{BufWriter, Read, Write};
+use std::io::{self, BufWriter, Read, Write};
+use std::process::ExitCode;
 use used::used_length;
 
 const HELP: &str = "usage: hvbuild [--listing] < TEXT
@@ -84,7 +85,7 @@ fn print_image(rt: &HostRuntime, listing: bool) -> anyhow::Result<()> {
 // A refusal that names the option.
 fn unknown(rt: &HostRuntime, option: &str) -> anyhow::Error {
     match format!(in rt.alloc(); "unknown option (--help lists them): '{option}'") {
-        Ok(text) => text.as_str().into(),
+        Ok(text) => anyhow!("{text}"),
         Err(e) => e.into(),
     }
 }
@@ -105,12 +106,12 @@ fn hvbuild(rt: &HostRuntime) -> anyhow::Result<()> {
     print_image(rt, listing)
 }
 
-fn main(rt: HostRuntime) -> anyhow::Result<()> {
+fn main(rt: HostRuntime) -> io::Result<ExitCode> {
     match hvbuild(&rt) {
-        Ok(()) => Ok(()),
+        Ok(()) => Ok(ExitCode::SUCCESS),
         Err(e) => {
             eprintln!(rt; "hvbuild: {e}")?;
-            Err(e)
+            Ok(ExitCode::FAILURE)
         }
     }
 }

@@ -12,7 +12,8 @@ use cpu::places::places;
 use rows::ROWS;
 use std::alloc::Global;
 use std::env;
-use std::io::{BufWriter, Write};
+use std::io::{self, BufWriter, Write};
+use std::process::ExitCode;
 
 const HELP: &str = "usage: hvdraw [--parts]
 
@@ -35,7 +36,7 @@ enum Task {
 // A refusal that names what was given.
 fn refused(heap: Global, what: &str, given: &str) -> anyhow::Error {
     match format!(in heap; "{what}: '{given}'") {
-        Ok(text) => text.as_str().into(),
+        Ok(text) => anyhow!("{text}"),
         Err(e) => e.into(),
     }
 }
@@ -105,12 +106,12 @@ fn hvdraw(rt: &HostRuntime) -> anyhow::Result<()> {
     Ok(())
 }
 
-fn main(rt: HostRuntime) -> anyhow::Result<()> {
+fn main(rt: HostRuntime) -> io::Result<ExitCode> {
     match hvdraw(&rt) {
-        Ok(()) => Ok(()),
+        Ok(()) => Ok(ExitCode::SUCCESS),
         Err(e) => {
             eprintln!(rt; "hvdraw: {e}")?;
-            Err(e)
+            Ok(ExitCode::FAILURE)
         }
     }
 }

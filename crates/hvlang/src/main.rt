@@ -11,7 +11,8 @@ use anyhow::anyhow;
 use input::Options;
 use interpreter::state::Ending;
 use run::{Report, run_text};
-use std::io::{BufWriter, Write};
+use std::io::{self, BufWriter, Write};
+use std::process::ExitCode;
 
 const HELP: &str = "usage: hvlang [--fuel N] [WORD..] < TEXT
 
@@ -94,12 +95,12 @@ fn hvlang(rt: &HostRuntime) -> anyhow::Result<()> {
     Ok(())
 }
 
-fn main(rt: HostRuntime) -> anyhow::Result<()> {
+fn main(rt: HostRuntime) -> io::Result<ExitCode> {
     match hvlang(&rt) {
-        Ok(()) => Ok(()),
+        Ok(()) => Ok(ExitCode::SUCCESS),
         Err(e) => {
             eprintln!(rt; "hvlang: {e}")?;
-            Err(e)
+            Ok(ExitCode::FAILURE)
         }
     }
 }

@@ -10,7 +10,8 @@ use anyhow::anyhow;
 use input::Options;
 use machine::Ran;
 use machine::processor::{Halt, Processor};
-use std::io::{BufWriter, Write};
+use std::io::{self, BufWriter, Write};
+use std::process::ExitCode;
 
 const HELP: &str = "usage: hvmachine [--limit N] [WORD..] < IMAGE
 
@@ -96,12 +97,12 @@ fn hvmachine(rt: &HostRuntime) -> anyhow::Result<()> {
     Ok(())
 }
 
-fn main(rt: HostRuntime) -> anyhow::Result<()> {
+fn main(rt: HostRuntime) -> io::Result<ExitCode> {
     match hvmachine(&rt) {
-        Ok(()) => Ok(()),
+        Ok(()) => Ok(ExitCode::SUCCESS),
         Err(e) => {
             eprintln!(rt; "hvmachine: {e}")?;
-            Err(e)
+            Ok(ExitCode::FAILURE)
         }
     }
 }

@@ -4,6 +4,7 @@
 
 use language::nodes::{MOST_NODES, MOST_PROCEDURES, Node, Procedure};
 use std::io::Read;
+use std::process::ExitCode;
 use std::{env, io};
 use text::load::{Refused, Sizes, load};
 
@@ -18,7 +19,7 @@ fn sizes(text: &[u8]) -> Result<Sizes, Refused> {
     load(text, &mut nodes, &mut table)
 }
 
-fn answer(rt: &HostRuntime, text: &[u8]) -> io::Result<()> {
+fn answer(rt: &HostRuntime, text: &[u8]) -> io::Result<ExitCode> {
     match sizes(text) {
         Ok(
             Sizes {
@@ -30,16 +31,17 @@ fn answer(rt: &HostRuntime, text: &[u8]) -> io::Result<()> {
         ) => {
             println!(rt;
                 "program: {globals} globals, {cells} cells, {procs} procedures, {signs} signs"
-            )
+            )?;
+            Ok(ExitCode::SUCCESS)
         }
         Err(Refused::NoProgram) => refuse(rt, "no program"),
         Err(Refused::Limits) => refuse(rt, "limits"),
     }
 }
 
-fn refuse(rt: &HostRuntime, message: &str) -> io::Result<()> {
+fn refuse(rt: &HostRuntime, message: &str) -> io::Result<ExitCode> {
     eprintln!(rt; "{message}")?;
-    Err(io::Error::from(io::ErrorKind::InvalidInput))
+    Ok(ExitCode::FAILURE)
 }
 
 fn input(rt: &HostRuntime) -> io::Result<Vec<u8>> {
@@ -48,15 +50,16 @@ fn input(rt: &HostRuntime) -> io::Result<Vec<u8>> {
     Ok(text)
 }
 
-fn main(rt: HostRuntime) -> io::Result<()> {
+fn main(rt: HostRuntime) -> io::Result<ExitCode> {
     let mut args = env::args(&rt)?;
     let _ = args.next();
     if let Some(option) = args.next() {
         if option.as_str() == "--help" {
-            return rt.println(HELP);
+            rt.println(HELP)?;
+            return Ok(ExitCode::SUCCESS);
         }
         eprintln!(rt; "hvread: unknown option {option} (see hvread --help)")?;
-        return Err(io::Error::from(io::ErrorKind::InvalidInput));
+        return Ok(ExitCode::FAILURE);
     }
     let text = input(&rt)?;
     answer(&rt, text.as_slice())

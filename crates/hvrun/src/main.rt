@@ -7,7 +7,8 @@ use anyhow::anyhow;
 use input::Options;
 use stack::{FLOPS, IMAGE, Lit, SHEET, SIGNALS, Shown};
 use std::alloc::Global;
-use std::io::{BufWriter, Write};
+use std::io::{self, BufWriter, Write};
+use std::process::ExitCode;
 
 const HELP: &str = "usage: hvrun [WORD..] < TEXT
 
@@ -84,12 +85,12 @@ fn hvrun(rt: &HostRuntime) -> anyhow::Result<()> {
     Ok(())
 }
 
-fn main(rt: HostRuntime) -> anyhow::Result<()> {
+fn main(rt: HostRuntime) -> io::Result<ExitCode> {
     match hvrun(&rt) {
-        Ok(()) => Ok(()),
+        Ok(()) => Ok(ExitCode::SUCCESS),
         Err(e) => {
             eprintln!(rt; "hvrun: {e}")?;
-            Err(e)
+            Ok(ExitCode::FAILURE)
         }
     }
 }

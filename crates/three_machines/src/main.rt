@@ -12,7 +12,8 @@ use anyhow::anyhow;
 use cases::Case;
 use machines::{Bounds, by_definition, on_board, on_instructions};
 use outcome::{Ending, Outcome, Runs};
-use std::{env, fs};
+use std::process::ExitCode;
+use std::{env, fs, io};
 
 const HELP: &str = "usage: three_machines TABLE..
 
@@ -96,7 +97,7 @@ fn count(rt: &HostRuntime, case: &Case, before: Tally) -> anyhow::Result<Tally> 
 // A refusal of a table's file or line.
 fn refused(rt: &HostRuntime, path: &str, why: &str) -> anyhow::Error {
     match format!(in rt.alloc(); "{path}: {why}") {
-        Ok(text) => text.as_str().into(),
+        Ok(text) => anyhow!("{text}"),
         Err(e) => e.into(),
     }
 }
@@ -158,12 +159,12 @@ fn run_tables(rt: &HostRuntime) -> anyhow::Result<()> {
     Ok(())
 }
 
-fn main(rt: HostRuntime) -> anyhow::Result<()> {
+fn main(rt: HostRuntime) -> io::Result<ExitCode> {
     match run_tables(&rt) {
-        Ok(()) => Ok(()),
+        Ok(()) => Ok(ExitCode::SUCCESS),
         Err(e) => {
             eprintln!(rt; "three_machines: {e}")?;
-            Err(e)
+            Ok(ExitCode::FAILURE)
         }
     }
 }
