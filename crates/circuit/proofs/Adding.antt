@@ -1,11 +1,11 @@
 -- The adder adds and the subtractor subtracts and compares, of levels f that obey their gates. In order: one bit, the
 -- adder, what the adder makes of a word and the inverse of another.
-use Rattle.std.proofs.Common.{◌≡◌, ℕ, zero, suc, ◌+◌, ◌-◌, ◌*◌, ◌<◌, Bool, true, false, cond, not, ◌&&◌, ltb, List, [], ◌∷◌, ◌++◌, map, length, sym, refl, ap, ◌∙◌, subst, arith}
+use Rattle.std.proofs.Common.{◌≡◌, ℕ, suc, ◌+◌, ◌-◌, ◌*◌, ◌<◌, Bool, true, false, cond, not, ltb, List, [], ◌∷◌, ◌++◌, map, length, sym, refl, ap, ◌∙◌, subst, arith}
 use lib.ListN.{length-map}
 use Rattle.std.proofs.lemmas.Bool.{lt-ltb, le-ltb}
 use Rattle.words.specs.Words.{bit, value, shifted, nand}
 use Rattle.words.proofs.Bits.{value_not, value_below, shifted_bit}
-use Rattle.circuit.specs.Parts.{Gates, plus2, plus3, plus4}
+use Rattle.circuit.specs.Parts.{Gates}
 use Rattle.circuit.specs.PartsAdder.{plus7, plus8, plus9, full_adder, adder_gates, adder_results, adder_carry}
 use Rattle.circuit.proofs.Settling.{Obeys}
 

@@ -1,15 +1,15 @@
 -- The laws of the parts as the board settles them: whatever levels stand before a part, its words are as its law says.
 -- In order: words, sums, the register file.
-use Rattle.std.proofs.Common.{◌≡◌, ℕ, zero, suc, ◌+◌, ◌-◌, ◌<◌, ◌≤◌, Bool, true, false, cond, not, ◌&&◌, eqb, ltb, List, [], ◌∷◌, ◌++◌, map, length, get_or, set, sym, refl, ap, ◌∙◌, ap₂, arith}
+use Rattle.std.proofs.Common.{◌≡◌, ℕ, zero, suc, ◌+◌, ◌-◌, ◌<◌, ◌≤◌, Bool, true, false, cond, not, ltb, List, [], ◌∷◌, ◌++◌, map, length, get_or, set, sym, refl, ap, ◌∙◌, ap₂, arith}
 use lib.ListN.{length-map}
 use Rattle.words.specs.Words.{value, shifted, bit_at, word, put, nands}
-use Rattle.words.proofs.Bits.{value_not, all_low, all_low_is}
-use Rattle.circuit.specs.Circuit.{settle, SoundGates, AllBelow}
-use Rattle.circuit.specs.Parts.{Gates, after, inverter_gates, inverter_results, nand_gates, mux_gates, mux_results, invert_if_gates, zero_gates}
-use Rattle.circuit.specs.PartsAdder.{adder_gates, adder_results, adder_carry, subtract_gates, subtract_results, less_result}
-use Rattle.circuit.specs.PartsRegisters.{read_gates, read_results, write_gates, write_results}
+use Rattle.words.proofs.Bits.{value_not, all_low_is}
+use Rattle.circuit.specs.Circuit.{settle, AllBelow}
+use Rattle.circuit.specs.Parts.{Gates, after, inverter_gates, inverter_results, nand_gates, mux_gates, invert_if_gates, zero_gates}
+use Rattle.circuit.specs.PartsAdder.{adder_gates, adder_carry, subtract_gates, subtract_results, less_result}
+use Rattle.circuit.specs.PartsRegisters.{read_gates, write_gates, write_results}
 use Rattle.circuit.specs.PartsLaws.{word_on, levels_on, words_on, selected, Lines, File, InverterInverts, NandNands, MuxChooses, InvertIfInverts, ZeroTests, AdderAdds, SubtractSubtracts, LessCompares, PortReads, PortWrites}
-use Rattle.circuit.proofs.Settling.{Obeys, obeys_both, kept, kept_word, settle_obeys, after_both}
+use Rattle.circuit.proofs.Settling.{Obeys, obeys_both, kept, kept_word, settle_obeys}
 use Rattle.circuit.proofs.Words.{inverts, inverts_one, nands_are, chooses, inverts_if, tests_zero}
 use Rattle.circuit.proofs.Adding.{adds, subtracts}
 use Rattle.circuit.proofs.Reading.{Wide, Inverses, line_levels, file_levels, reads}

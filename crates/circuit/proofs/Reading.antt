@@ -2,8 +2,8 @@
 -- level of choices, the whole tree.
 use Rattle.std.proofs.Common.{◌≡◌, ℕ, zero, suc, ◌+◌, ◌*◌, Bool, true, false, cond, not, List, [], ◌∷◌, ◌++◌, map, length, get_or, sym, refl, ap, ◌∙◌, ap₂, arith}
 use Rattle.words.specs.Words.{bit, value, shifted}
-use Rattle.circuit.specs.Parts.{Gates, after, paired, inverter_gates, inverter_results, mux_gates, mux_results}
-use Rattle.circuit.specs.PartsRegisters.{level_gates, level_results, read_gates, read_results, first_word}
+use Rattle.circuit.specs.Parts.{after, paired, inverter_gates, inverter_results, mux_gates}
+use Rattle.circuit.specs.PartsRegisters.{level_gates, level_results, read_gates, read_results}
 use Rattle.circuit.proofs.Settling.{Obeys, obeys_both}
 use Rattle.circuit.proofs.Words.{inverts_one, chooses, mux_length}
 

@@ -1,7 +1,7 @@
 -- Settled levels as one function from signal to level, of which every gate is an equation; then no fact is ever lost
 -- when later gates are added. In order: gates as equations, settled levels obey them, what stands stays, drawings in
 -- stages, and tests that show soundness by computing.
-use Rattle.std.proofs.Common.{◌≡◌, ℕ, zero, suc, ◌+◌, ◌<◌, ◌≤◌, Bool, true, false, not, ◌&&◌, ltb, List, [], ◌∷◌, ◌++◌, map, length, sym, refl, ap, ◌∙◌, ap₂, append_assoc, append-nil, arith, length-append}
+use Rattle.std.proofs.Common.{◌≡◌, ℕ, zero, suc, ◌+◌, ◌<◌, Bool, true, ◌&&◌, ltb, List, [], ◌∷◌, ◌++◌, map, length, sym, refl, ap, ◌∙◌, ap₂, append_assoc, append-nil, arith, length-append}
 use Rattle.std.proofs.lemmas.Bool.{and_parts, ltb-true, lt-ltb}
 use Rattle.words.specs.Words.{nand, bit_at}
 use Rattle.circuit.specs.Circuit.{settle, SoundGates, AllBelow}

@@ -1,9 +1,9 @@
 -- Each part's gates are fed by signals before them, if the signals that the part is given are there. In order: more
 -- signals, words and sums, the read port, the write port.
-use Rattle.std.proofs.Common.{◌≡◌, ℕ, zero, suc, ◌+◌, ◌<◌, ◌≤◌, List, [], ◌∷◌, ◌++◌, length, sym, refl, ap, ◌∙◌, subst, arith}
+use Rattle.std.proofs.Common.{◌≡◌, ℕ, suc, ◌<◌, ◌≤◌, List, [], ◌∷◌, ◌++◌, arith}
 use Rattle.circuit.specs.Circuit.{SoundGates, AllBelow}
 use Rattle.circuit.specs.Parts.{Gates, after, plus2, plus3, plus4, inverter_gates, inverter_results, nand_gates, mux_gates, mux_results, invert_if_gates, zero_gates}
-use Rattle.circuit.specs.PartsAdder.{plus8, plus9, full_adder, adder_gates, adder_carry, subtract_gates}
+use Rattle.circuit.specs.PartsAdder.{plus8, plus9, adder_gates, adder_carry, subtract_gates}
 use Rattle.circuit.specs.PartsRegisters.{level_gates, level_results, read_gates, split_gates, split_results, decoder, keep_gates, write_gates}
 use Rattle.circuit.proofs.Settling.{after_length, after_both}
 

@@ -1,8 +1,8 @@
 -- Cycles of any circuit, one after the other: cycles add up, what is shown stays shown, a board that has halted stays;
 -- so a board's run only grows.
-use Rattle.std.proofs.Common.{◌≡◌, ℕ, zero, suc, ◌+◌, ◌-◌, ◌<◌, ◌≤◌, Bool, true, false, cond, List, [], ◌∷◌, ◌++◌, sym, refl, ap, ◌∙◌, arith}
+use Rattle.std.proofs.Common.{◌≡◌, ℕ, zero, suc, ◌+◌, ◌-◌, ◌<◌, ◌≤◌, Bool, true, false, cond, List, [], ◌∷◌, ◌++◌, refl, ap, ◌∙◌, arith}
 use Rattle.words.specs.Words.{bit_at}
-use Rattle.words.specs.Runs.{Seen, Prefix}
+use Rattle.words.specs.Runs.{Prefix}
 use Rattle.words.proofs.Runs.{prefix_refl, prefix_trans, Grows}
 use Rattle.circuit.specs.Circuit.{Circuit, Board, tick, ticks, cycle, unless_halted, pin_levels, datum, emit_pin, power_on, board_run, seen_board}
 

@@ -1,9 +1,9 @@
 -- Inverters, NANDs, choices and the zero test, of levels f that obey their gates. In order: single bits, inverters,
 -- NAND of words, the choice, the choice whose lines may both be low, the conditional inverse, the zero test.
-use Rattle.std.proofs.Common.{◌≡◌, ℕ, zero, suc, ◌+◌, Bool, true, false, cond, not, ◌&&◌, List, [], ◌∷◌, ◌++◌, map, length, sym, refl, ap, ◌∙◌, ap₂, arith}
+use Rattle.std.proofs.Common.{◌≡◌, ℕ, suc, Bool, true, false, cond, not, ◌&&◌, List, [], ◌∷◌, map, length, sym, refl, ap, ◌∙◌, ap₂, arith}
 use Rattle.words.specs.Words.{nand, nands}
 use Rattle.words.proofs.Bits.{all_low}
-use Rattle.circuit.specs.Parts.{Gates, after, plus2, plus3, plus4, inverter_gates, inverter_results, nand_gates, nand_results, mux_gates, mux_results, invert_if_gates, invert_if_results, zero_gates, zero_result}
+use Rattle.circuit.specs.Parts.{plus2, plus3, plus4, inverter_gates, inverter_results, nand_gates, nand_results, mux_gates, mux_results, invert_if_gates, invert_if_results, zero_gates, zero_result}
 use Rattle.circuit.proofs.Settling.{Obeys}
 
 pub nand_self : (x : Bool) → nand x x ≡ not x

@@ -1,8 +1,8 @@
 -- The write port writes, of levels f that obey its gates. In order: lines of which one is high, the decoder that makes
 -- them, the registers that keep or take, the whole port.
-use Rattle.std.proofs.Common.{◌≡◌, ℕ, zero, suc, ◌+◌, ◌*◌, Bool, true, false, cond, not, ◌&&◌, List, [], ◌∷◌, ◌++◌, map, length, set, sym, refl, ap, ◌∙◌, ap₂, arith}
+use Rattle.std.proofs.Common.{◌≡◌, ℕ, zero, suc, ◌+◌, ◌*◌, Bool, true, false, cond, not, ◌&&◌, List, [], ◌∷◌, map, length, set, sym, refl, ap, ◌∙◌, ap₂, arith}
 use Rattle.words.specs.Words.{bit, value, shifted, nand}
-use Rattle.circuit.specs.Parts.{Gates, after, plus2, plus3, plus4, mux_gates, mux_results}
+use Rattle.circuit.specs.Parts.{after, plus2, plus3, plus4, mux_gates}
 use Rattle.circuit.specs.PartsRegisters.{split_gates, split_results, decoder, keep_gates, keep_results, write_gates, write_results}
 use Rattle.circuit.proofs.Settling.{Obeys, obeys_both}
 use Rattle.circuit.proofs.Words.{chooses, and_bit}

@@ -1,6 +1,6 @@
 -- Parts of a circuit, for every width. A part is two things: its gates, from signal n on, and the signals that carry
 -- its results. Words are lists of signals, lowest bit first.
-use Rattle.std.specs.Prelude.{ℕ, zero, suc, List, [], ◌∷◌, ◌++◌}
+use Rattle.std.specs.Prelude.{ℕ, suc, List, [], ◌∷◌, ◌++◌}
 
 -- a gate is the two signals whose NAND it is
 abbrev pub Gates : Type 0

@@ -1,5 +1,5 @@
 -- The ripple-carry adder, and the subtractor that compares, for every width.
-use Rattle.std.specs.Prelude.{ℕ, zero, suc, List, [], ◌∷◌, ◌++◌}
+use Rattle.std.specs.Prelude.{ℕ, suc, List, [], ◌∷◌, ◌++◌}
 use Rattle.circuit.specs.Parts.{Gates, after, plus2, plus3, plus4, inverter_gates, inverter_results}
 
 abbrev pub plus5 : ℕ → ℕ

@@ -1,10 +1,10 @@
 -- What each part does, by its words, whatever levels stand on the board before it. In each law v are the levels before
 -- the part; its gates come right behind them and settle. Together with the pictures of the parts this is all that a
 -- drawing needs to know of them.
-use Rattle.std.specs.Prelude.{◌≡◌, ℕ, zero, suc, ◌+◌, ◌-◌, ◌*◌, ◌<◌, Bool, true, false, cond, not, List, [], ◌∷◌, ◌++◌, map, length, ◌==◌, nat_lt}
+use Rattle.std.specs.Prelude.{◌≡◌, ℕ, ◌+◌, ◌-◌, ◌<◌, Bool, true, cond, not, List, [], ◌∷◌, map, length, ◌==◌, nat_lt}
 use Rattle.words.specs.Words.{bit, value, shifted, nands, bit_at, word, put}
 use Rattle.circuit.specs.Circuit.{settle, AllBelow}
-use Rattle.circuit.specs.Parts.{Gates, inverter_gates, inverter_results, nand_gates, nand_results, mux_gates, mux_results, invert_if_gates, invert_if_results, zero_gates, zero_result}
+use Rattle.circuit.specs.Parts.{inverter_gates, inverter_results, nand_gates, nand_results, mux_gates, mux_results, invert_if_gates, invert_if_results, zero_gates, zero_result}
 use Rattle.circuit.specs.PartsAdder.{adder_gates, adder_results, adder_carry, subtract_gates, subtract_results, less_result}
 use Rattle.circuit.specs.PartsRegisters.{read_gates, read_results, write_gates, write_results}
 

@@ -1,5 +1,5 @@
 -- The two ports of a register file, for every width and every number of select lines. A line comes with its inverse.
-use Rattle.std.specs.Prelude.{ℕ, zero, suc, List, [], ◌∷◌, ◌++◌}
+use Rattle.std.specs.Prelude.{ℕ, suc, List, [], ◌∷◌, ◌++◌}
 use Rattle.circuit.specs.Parts.{Gates, after, plus2, plus3, plus4, mux_gates, mux_results}
 
 -- Of each two words that stand side by side, the second where the line s is high, else the first.

@@ -1,6 +1,5 @@
 -- The promise of 'build': no two answers are right of one text; an image that the code made; the promise by answer.
-use Rattle.std.proofs.Common.{◌≡◌, ℕ, Bool, true, false, T, List, length, Ok, Err, Result, sym, refl, ap, ◌∙◌, subst, arith}
-use Rattle.words.specs.Words.{memory_size}
+use Rattle.std.proofs.Common.{◌≡◌, ℕ, Bool, false, T, List, Err, sym, refl, ap, ◌∙◌, subst}
 use Rattle.language.specs.Language.{Program}
 use Rattle.language.specs.Limits.{fits}
 use Rattle.language.proofs.Fuel.{fuel_keeps}
@@ -8,12 +7,10 @@ use Rattle.language.specs.declared.nodes.Node.{Node}
 use Rattle.language.specs.declared.nodes.Procedure.{Procedure}
 use Rattle.text.specs.Text.{Reads}
 use Rattle.text.specs.Loads.{Loads}
-use Rattle.text.specs.declared.load.Sizes.{Sizes}
 use Rattle.text.specs.declared.load.Refused.{Refused}
 use Rattle.text.specs.declared.load.Refused.TheVariants as F
 use Rattle.text.proofs.Decode.{one_program}
 use Rattle.codegen.specs.Codegen.{image}
-use Rattle.codegen.specs.Promise.{RightImage}
 use Rattle.codegen.proofs.Images.{images_right}
 use Rattle.compiler.specs.declared.Made.{Made}
 use Rattle.compiler.specs.declared.Made.TheVariants as M

@@ -1,11 +1,11 @@
 -- The code of work, from that of its parts and of its last block.
-use Rattle.std.proofs.Common.{◌≡◌, ℕ, zero, suc, ◌+◌, ◌<◌, ◌≤◌, List, [], ◌∷◌, ◌++◌, length, sym, refl, ap, ◌∙◌, subst, arith}
+use Rattle.std.proofs.Common.{◌≡◌, ℕ, List, [], ◌∷◌, ◌++◌, sym, refl, ap, ◌∙◌, subst}
 use Rattle.words.specs.Words.{word}
 use Rattle.language.specs.Language.{Expr, Program}
-use Rattle.language.specs.Nodes.{node_at, ExprAt}
+use Rattle.language.specs.Nodes.{node_at}
 use Rattle.language.specs.declared.nodes.Node.{Node}
 use Rattle.language.specs.declared.nodes.Node.TheVariants as N
-use Rattle.codegen.specs.Codegen.{push, go_to, end_of_expr, code_expr, entry, load_cell, store_cell}
+use Rattle.codegen.specs.Codegen.{push, go_to, end_of_expr, entry, load_cell, store_cell}
 use Rattle.codegen.specs.Instructions.{Instruction, past}
 use Rattle.compiler.specs.declared.parts.Parts.{Parts}
 use Rattle.compiler.specs.declared.parts.Parts.TheVariants as P

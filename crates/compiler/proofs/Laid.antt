@@ -1,13 +1,13 @@
 -- The code of a statement, from that of its parts and of the ways between them.
-use Rattle.std.proofs.Common.{◌≡◌, ℕ, ◌+◌, ◌<◌, ◌≤◌, List, ◌++◌, sym, refl, ap, ◌∙◌, subst, arith}
-use Rattle.language.specs.Language.{Expr, Stmt, then, if, while, Program}
-use Rattle.language.specs.Nodes.{node_at, ExprAt, StmtAt}
+use Rattle.std.proofs.Common.{◌≡◌, ℕ, ◌+◌, List, ◌++◌, sym, ap, ◌∙◌, subst, arith}
+use Rattle.language.specs.Language.{Expr, Stmt, if, while}
+use Rattle.language.specs.Nodes.{node_at}
 use Rattle.language.specs.declared.nodes.Node.{Node}
 use Rattle.language.specs.declared.nodes.Node.TheVariants as N
-use Rattle.codegen.specs.Codegen.{go_to, go_unless_zero, end_of_expr, code_expr, end_of_stmt, code_stmt, else_place, then_place, loop_place}
+use Rattle.codegen.specs.Codegen.{go_to, go_unless_zero, code_expr, end_of_stmt, code_stmt, else_place, then_place, loop_place}
 use Rattle.codegen.specs.Instructions.{Instruction, past}
-use Rattle.compiler.specs.Writing.{put_all, Emits, Writes}
-use Rattle.compiler.specs.Work.{Target, EndsWork, EmitsWork}
+use Rattle.compiler.specs.Writing.{put_all, Writes}
+use Rattle.compiler.specs.Work.{EndsWork, EmitsWork}
 use Rattle.compiler.specs.Statements.{EndsStmt, EmitsStmt}
 use Rattle.compiler.specs.Sizes.{go_words, go_unless_words}
 use Rattle.compiler.proofs.Writings.{emits_both}

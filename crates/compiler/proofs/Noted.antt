@@ -1,7 +1,7 @@
 -- The places of the signs at a node, from those of its parts: of work, of statements, of procedures.
-use Rattle.std.proofs.Common.{◌≡◌, ℕ, ◌+◌, List, [], ◌∷◌, sym, refl, ap, ◌∙◌, subst, arith}
-use Rattle.language.specs.Language.{Expr, Stmt, then, if, while, Proc}
-use Rattle.language.specs.Nodes.{node_at, ExprAt, StmtAt, IsProc}
+use Rattle.std.proofs.Common.{◌≡◌, ℕ, ◌+◌, List, ◌∷◌, sym, ap, ◌∙◌, subst, arith}
+use Rattle.language.specs.Language.{Expr, Stmt, Proc}
+use Rattle.language.specs.Nodes.{node_at, ExprAt, StmtAt}
 use Rattle.language.specs.declared.nodes.Node.{Node}
 use Rattle.language.specs.declared.nodes.Node.TheVariants as N
 use Rattle.language.specs.declared.nodes.Procedure.{Procedure}

@@ -1,11 +1,11 @@
 -- The parts of work: which expressions they are, and that their code is within the words for code; then the measure of the
 -- whole from those of its parts.
-use Rattle.std.proofs.Common.{◌≡◌, ℕ, zero, suc, ◌+◌, ◌<◌, ◌≤◌, max, List, [], ◌∷◌, length, sym, refl, ap, ◌∙◌, subst, arith}
+use Rattle.std.proofs.Common.{◌≡◌, ℕ, ◌+◌, ◌<◌, ◌≤◌, List, [], ◌∷◌, length, sym, ap, ◌∙◌, subst, arith}
 use Rattle.language.specs.Language.{Expr, num, loc, glob, cell, add, sub, nand, less, half, call, both_height, height}
 use Rattle.language.specs.Nodes.{node_at, ExprAt}
 use Rattle.language.specs.declared.nodes.Node.{Node}
 use Rattle.codegen.specs.Codegen.{push, end_of_expr}
-use Rattle.codegen.specs.Instructions.{Instruction, past}
+use Rattle.codegen.specs.Instructions.{past}
 use Rattle.codegen.specs.Layout.{code_limit}
 use Rattle.codegen.proofs.Sizes.{past_is, size_expr}
 use Rattle.compiler.specs.declared.parts.Parts.{Parts}

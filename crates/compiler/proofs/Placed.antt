@@ -3,12 +3,12 @@ use Rattle.std.proofs.Common.{◌≡◌, ℕ, zero, suc, ◌+◌, ◌<◌, ◌�
 use mathlib.Core.Option.{some}
 use Rattle.language.specs.Language.{Proc, Program, proc_at}
 use Rattle.language.specs.Limits.{most_globals, most_procs, most_locals, fits_procs}
-use Rattle.language.specs.Nodes.{entry_at, IsProc, Holds}
+use Rattle.language.specs.Nodes.{entry_at, IsProc}
 use Rattle.language.specs.declared.nodes.Node.{Node}
 use Rattle.language.specs.declared.nodes.Procedure.{Procedure}
 use Rattle.codegen.specs.Codegen.{end_of_proc, end_of_procs, proc_place, first_proc, entry}
 use Rattle.codegen.specs.Layout.{code_limit}
-use Rattle.codegen.proofs.Limits.{WithinLimits, within_limits, first_fits}
+use Rattle.codegen.proofs.Limits.{within_limits, first_fits}
 use Rattle.codegen.proofs.Sizes.{size_procs, end_within, entry_within}
 use Rattle.compiler.specs.Work.{StmtFits}
 use Rattle.compiler.specs.Procs.{ProcWorks, ProgramHeld}

@@ -1,15 +1,15 @@
 -- The code of a procedure: where its body begins; its frame's size is a word; its code from that of its body.
-use Rattle.std.proofs.Common.{◌≡◌, ℕ, zero, suc, ◌+◌, ◌<◌, ◌≤◌, max, List, [], ◌∷◌, ◌++◌, length, sym, refl, ap, ◌∙◌, subst, arith}
-use Rattle.language.specs.Language.{Expr, Stmt, skip, then, setloc, setglob, setcell, if, while, out, take, Proc, Program, height, stmt_height, frame_words, frame_size}
-use Rattle.language.specs.Nodes.{IsProc, StmtAt}
+use Rattle.std.proofs.Common.{◌≡◌, ℕ, ◌+◌, ◌≤◌, List, ◌++◌, sym, ap, ◌∙◌, subst, arith}
+use Rattle.language.specs.Language.{Stmt, skip, then, setloc, setglob, setcell, if, while, out, take, Proc, stmt_height, frame_words, frame_size}
+use Rattle.language.specs.Nodes.{StmtAt}
 use Rattle.language.specs.declared.nodes.Node.{Node}
 use Rattle.language.specs.declared.nodes.Procedure.{Procedure}
-use Rattle.codegen.specs.Codegen.{push, end_of_expr, end_of_stmt, code_stmt, else_place, then_place, loop_place, check_room, make_frame, clear_words, leave_frame, body_place, end_of_proc, code_proc}
+use Rattle.codegen.specs.Codegen.{push, end_of_expr, end_of_stmt, code_stmt, else_place, then_place, loop_place, check_room, make_frame, clear_words, leave_frame, body_place}
 use Rattle.codegen.specs.Instructions.{Instruction, past}
 use Rattle.codegen.specs.Layout.{code_limit}
 use Rattle.codegen.proofs.Sizes.{past_is, length_clear, size_stmt}
-use Rattle.compiler.specs.Writing.{put_all, Emits, Writes}
-use Rattle.compiler.specs.Work.{StmtWorks, Target}
+use Rattle.compiler.specs.Writing.{put_all, Writes}
+use Rattle.compiler.specs.Work.{StmtWorks}
 use Rattle.compiler.specs.Statements.{EndsStmt, EmitsStmt}
 use Rattle.compiler.specs.Procs.{ProcWorks, EndsProc, EmitsProc}
 use Rattle.compiler.specs.Frames.{room_test, frame_made, frame_left}

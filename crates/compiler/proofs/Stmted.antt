@@ -1,10 +1,10 @@
 -- The measure of a statement, from those of its parts.
-use Rattle.std.proofs.Common.{◌≡◌, ℕ, ◌+◌, ◌<◌, ◌≤◌, max, List, sym, refl, ap, ◌∙◌, subst, arith}
-use Rattle.language.specs.Language.{Expr, Stmt, then, if, while, height, stmt_height}
-use Rattle.language.specs.Nodes.{node_at, ExprAt, StmtAt}
+use Rattle.std.proofs.Common.{◌≡◌, ℕ, ◌+◌, max, List, sym, ap, ◌∙◌, subst, arith}
+use Rattle.language.specs.Language.{Expr, Stmt, height, stmt_height}
+use Rattle.language.specs.Nodes.{node_at}
 use Rattle.language.specs.declared.nodes.Node.{Node}
 use Rattle.language.specs.declared.nodes.Node.TheVariants as N
-use Rattle.codegen.specs.Codegen.{go_to, end_of_expr, end_of_stmt, else_place, then_place, loop_place}
+use Rattle.codegen.specs.Codegen.{go_to, end_of_stmt, else_place, then_place, loop_place}
 use Rattle.codegen.specs.Instructions.{past}
 use Rattle.compiler.specs.declared.measure.Extent.{Extent}
 use Rattle.compiler.specs.Work.{MeasuresWork}

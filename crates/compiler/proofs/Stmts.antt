@@ -1,13 +1,13 @@
 -- The parts of a statement: which they are, and that their code is within the words for code. Statements whose parts are
 -- expressions are work; then 'then', 'if' and 'while'.
-use Rattle.std.proofs.Common.{◌≡◌, ℕ, zero, suc, ◌+◌, ◌<◌, ◌≤◌, Bool, ◌&&◌, T, ltb, List, [], ◌∷◌, length, sym, refl, ap, ◌∙◌, subst, arith, ltb→lt}
-use Rattle.language.specs.Language.{Expr, Stmt, skip, then, setloc, setglob, setcell, if, while, out, take, Program, height, stmt_height}
+use Rattle.std.proofs.Common.{◌≡◌, ℕ, zero, suc, ◌<◌, ◌≤◌, ◌&&◌, T, ltb, List, [], ◌∷◌, length, sym, refl, subst, arith, ltb→lt}
+use Rattle.language.specs.Language.{Expr, Stmt, then, setloc, setglob, setcell, if, while, out, stmt_height}
 use Rattle.language.specs.Limits.{fits_expr, fits_stmt}
 use Rattle.language.specs.Nodes.{node_at, IsExpr, ExprAt, StmtNode, IsStmt, StmtAt}
 use Rattle.language.specs.declared.nodes.Node.{Node}
 use Rattle.language.specs.declared.nodes.Node.TheVariants as N
-use Rattle.codegen.specs.Codegen.{go_to, go_unless_zero, end_of_expr, end_of_stmt, code_stmt, else_place, then_place, loop_place}
-use Rattle.codegen.specs.Instructions.{Instruction, past}
+use Rattle.codegen.specs.Codegen.{go_to, end_of_stmt, code_stmt, else_place, then_place, loop_place}
+use Rattle.codegen.specs.Instructions.{past}
 use Rattle.codegen.specs.Layout.{code_limit}
 use Rattle.codegen.proofs.Rows.{both}
 use Rattle.codegen.proofs.Sizes.{size_expr, size_stmt}

@@ -1,10 +1,9 @@
 -- All of a program's code: one more procedure; the start before them; written over zeros it is the image.
-use Rattle.std.proofs.Common.{◌≡◌, ℕ, zero, suc, ◌+◌, ◌-◌, ◌<◌, ◌≤◌, List, [], ◌∷◌, ◌++◌, map, length, set, replicate, sym, refl, ap, ◌∙◌, subst, arith, length-append}
-use Rattle.words.specs.Words.{memory_size, put}
+use Rattle.std.proofs.Common.{◌≡◌, ℕ, zero, suc, ◌+◌, ◌-◌, List, [], ◌∷◌, ◌++◌, map, length, set, replicate, sym, refl, ap, ◌∙◌, arith}
+use Rattle.words.specs.Words.{memory_size}
 use Rattle.language.specs.Language.{Proc, Program}
-use Rattle.codegen.specs.Codegen.{end_of_proc, code_proc, code_procs, start_code, first_proc, entry, code, image}
+use Rattle.codegen.specs.Codegen.{end_of_proc, code_proc, code_procs, start_code, first_proc, entry, code}
 use Rattle.codegen.specs.Instructions.{Instruction, encode}
-use Rattle.codegen.specs.Layout.{code_limit}
 use Rattle.codegen.proofs.Limits.{within_limits}
 use Rattle.codegen.proofs.Sizes.{code_length, end_within}
 use Rattle.compiler.specs.Writing.{put_all, Emits, Writes}

@@ -1,12 +1,12 @@
 -- What stands at a node that is work: every expression, and the statements whose parts are expressions. Its parts, its
 -- code, its end and its height are those of the expression or statement.
-use Rattle.std.proofs.Common.{◌≡◌, ℕ, zero, suc, ◌+◌, ◌<◌, ◌≤◌, Bool, ◌&&◌, T, ltb, List, [], ◌∷◌, length, sym, refl, ap, ◌∙◌, subst, arith, ltb→lt}
-use Rattle.language.specs.Language.{Expr, num, loc, glob, cell, add, sub, nand, less, half, call, Stmt, skip, then, setloc, setglob, setcell, if, while, out, take, Program, height, stmt_height}
-use Rattle.language.specs.Limits.{most_globals, most_procs, fits_expr, fits_stmt}
-use Rattle.language.specs.Nodes.{node_at, ExprNode, IsExpr, ExprAt, StmtNode, IsStmt, StmtAt}
+use Rattle.std.proofs.Common.{◌≡◌, ℕ, zero, suc, ◌<◌, ◌≤◌, ◌&&◌, T, ltb, List, [], ◌∷◌, length, sym, refl, ap, ◌∙◌, subst, arith, ltb→lt}
+use Rattle.language.specs.Language.{Expr, cell, add, sub, nand, less, half, call, Program, height}
+use Rattle.language.specs.Limits.{fits_expr}
+use Rattle.language.specs.Nodes.{node_at, ExprNode, IsExpr, ExprAt}
 use Rattle.language.specs.declared.nodes.Node.{Node}
 use Rattle.language.specs.declared.nodes.Node.TheVariants as N
-use Rattle.codegen.specs.Codegen.{end_of_expr, code_expr, end_of_stmt, code_stmt}
+use Rattle.codegen.specs.Codegen.{end_of_expr, code_expr}
 use Rattle.codegen.specs.Instructions.{Instruction}
 use Rattle.codegen.specs.Layout.{code_limit}
 use Rattle.codegen.proofs.Rows.{both}
@@ -14,7 +14,7 @@ use Rattle.compiler.specs.declared.measure.Extent.{Extent}
 use Rattle.compiler.specs.Writing.{put_all, Emits}
 use Rattle.signs.specs.Places.{places_expr}
 use Rattle.compiler.specs.Places.{work_places}
-use Rattle.compiler.specs.Work.{parts_of, NodeFits, ExprFits, StmtFits, PartsAt, AllFit, work_code, work_end, work_height, Works, Target, MeasuresWork, EndsWork, EmitsWork}
+use Rattle.compiler.specs.Work.{parts_of, NodeFits, ExprFits, PartsAt, AllFit, work_code, work_end, work_height, Works, Target, MeasuresWork, EndsWork, EmitsWork}
 
 pub record NodeWork (nodes : List Node) (i : ℕ) (d : Node) (Fits : Type 0) (code : Program → List Instruction → List Instruction) (end : ℕ → ℕ) (high : ℕ) (places : ℕ → List ℕ → List ℕ) : Type 0 where
   pub exprs : List Expr

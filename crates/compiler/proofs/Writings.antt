@@ -1,10 +1,9 @@
 -- Writing instructions into an image: one more of a row; one piece of code after another; what all of them make of an image.
-use Rattle.std.proofs.Common.{◌≡◌, ℕ, zero, suc, ◌+◌, ◌<◌, List, [], ◌∷◌, ◌++◌, map, length, get_or, drop, sym, refl, ap, ◌∙◌, arith, drop-cons}
-use lib.ListN.{length-map}
+use Rattle.std.proofs.Common.{◌≡◌, ℕ, zero, suc, ◌+◌, ◌<◌, List, [], ◌∷◌, ◌++◌, map, length, get_or, drop, sym, ap, ◌∙◌, arith, drop-cons}
 use Rattle.words.specs.Words.{put}
 use Rattle.codegen.specs.Instructions.{Instruction, encode, WithinWidths, past}
 use Rattle.compiler.specs.declared.instructions.Instruction.{Instruction as Written}
-use Rattle.compiler.specs.Writing.{meaning, AllWithin, put_all, Emits, Writes}
+use Rattle.compiler.specs.Writing.{meaning, AllWithin, put_all, Emits}
 
 -- One more of a row.
 pub within_at : (xs : List Written) (i : ℕ) (d : Written) → AllWithin (map meaning xs) → i < length xs → WithinWidths (meaning (get_or xs i d))

@@ -1,5 +1,5 @@
 -- Procedures in the table: where their code ends, and that it was written; then all of a program's code.
-use Rattle.std.specs.Prelude.{◌≡◌, ℕ, ◌<◌, ◌≤◌, T, List, [], length}
+use Rattle.std.specs.Prelude.{◌≡◌, ℕ, ◌<◌, ◌≤◌, T, List, length}
 use Rattle.words.specs.Words.{word}
 use Rattle.language.specs.Language.{Proc, Program}
 use Rattle.language.specs.Limits.{fits, most_locals, most_procs}

@@ -1,13 +1,13 @@
 -- Nodes whose parts are expressions: their code is that of the parts, the values pushed between them, and a last block.
 -- So it is of every expression, and of every statement but 'then', 'if' and 'while'.
 use Rattle.std.specs.Prelude.{◌≡◌, ℕ, ◌<◌, ◌≤◌, T, List, [], ◌∷◌, ◌++◌, length}
-use Rattle.words.specs.Words.{word, memory_size}
+use Rattle.words.specs.Words.{word}
 use Rattle.language.specs.Language.{Expr, Stmt, Program, both_height, height}
 use Rattle.language.specs.Limits.{most_globals, most_procs, fits_expr, fits_stmt}
 use Rattle.language.specs.Nodes.{node_at, ExprAt, StmtAt}
 use Rattle.language.specs.declared.nodes.Node.{Node}
 use Rattle.language.specs.declared.nodes.Node.TheVariants as N
-use Rattle.codegen.specs.Codegen.{constant, add_code, go_to, halve, less_code, load_cell, load_global, load_local, nand_code, pop, push, put_out, store_cell, store_global, store_local, sub_code, take_to_local, end_of_expr, code_expr, end_of_stmt, code_stmt, entry}
+use Rattle.codegen.specs.Codegen.{constant, add_code, go_to, halve, less_code, load_cell, load_global, load_local, nand_code, pop, push, put_out, store_cell, store_global, store_local, sub_code, take_to_local, end_of_expr, code_expr, end_of_stmt, entry}
 use Rattle.codegen.specs.Instructions.{Instruction, past}
 use Rattle.codegen.specs.Layout.{value, code_limit}
 use Rattle.compiler.specs.declared.parts.Parts.{Parts}

@@ -1,9 +1,8 @@
 -- A stored word is there when it is wanted. In order: no cycle both stores and wants a word; steps one after the other;
 -- the registers on a board; the fetch and the load after a store.
-use Rattle.std.proofs.Common.{◌≡◌, ℕ, zero, suc, ◌+◌, ◌-◌, ◌*◌, ◌/◌, ◌%◌, ◌<◌, Bool, true, false, not, ◌&&◌, ◌⊎◌, List, [], ◌∷◌, ◌++◌, map, length, take, drop, sym, refl, ap, ◌∙◌, subst, inl, inr, arith, length-append}
-use Rattle.std.proofs.lemmas.Bool.{ltb-true}
-use Rattle.std.proofs.lemmas.List.{get_or-set_same, length-set}
-use Rattle.words.specs.Words.{bits, value, bit_at, word, put, front, IsMemory, IsTape, memory_size}
+use Rattle.std.proofs.Common.{◌≡◌, ℕ, zero, suc, ◌-◌, ◌<◌, Bool, true, false, not, ◌&&◌, List, [], ◌∷◌, ◌++◌, map, length, take, sym, refl, ap, ◌∙◌, subst, inl, inr, arith}
+use Rattle.std.proofs.lemmas.List.{get_or-set_same}
+use Rattle.words.specs.Words.{bits, value, bit_at, word, put, front, IsMemory, IsTape}
 use Rattle.words.specs.Runs.{running}
 use Rattle.words.proofs.Bits.{value_bits_16}
 use Rattle.circuit.specs.Circuit.{Board, SoundGates, input_signals, settle, inputs, signals, pin_levels, store_pin, tick, cycle, unless_halted}
@@ -12,12 +11,12 @@ use Rattle.circuit.proofs.Settling.{Obeys, settle_obeys, kept}
 use Rattle.machine.specs.Machine.{Machine, Op, Store, Load, act, operation, fetched, place, following, register, execute, step, steps, begin}
 use Rattle.cpu.specs.Signals.{OP_0, OP_1, OP_2, OP_3, PHASE_1, PHASE_2, PHASE_3, LOADS, control_start, flop_count}
 use Rattle.cpu.specs.Control.{STORE, LOAD}
-use Rattle.cpu.specs.Cpu.{cpu, cpu_gates, cpu_next, cpu_pins}
-use Rattle.cpu.specs.Stored.{flop, OnePhase, StoresAlone, behind_words, register_on, board_after, LoadAfterStore, FetchAfterStore}
+use Rattle.cpu.specs.Cpu.{cpu, cpu_gates}
+use Rattle.cpu.specs.Stored.{StoresAlone, behind_words, register_on, board_after, LoadAfterStore, FetchAfterStore}
 use Rattle.cpu.proofs.Drawing.{drawing, Staged, staged, sound}
-use Rattle.cpu.proofs.ControlLines.{Control, control}
+use Rattle.cpu.proofs.ControlLines.{control}
 use Rattle.cpu.proofs.Board.{held, flat_bits}
-use Rattle.cpu.proofs.States.{WordsIn, Ready, Stopped, Stands}
+use Rattle.cpu.proofs.States.{WordsIn, Ready, Stands}
 use Rattle.cpu.proofs.IsMachine.{stands_at}
 
 -- the store pin, and the flip-flops that say what the next cycle wants, by the levels f

@@ -1,12 +1,12 @@
 -- One cycle of the board with the drawing, in words. In order: a state of the flip-flops as numbers, the levels that
 -- settle from it, the registers after a cycle, the pins and the next state, the whole cycle.
-use Rattle.std.proofs.Common.{◌≡◌, ℕ, zero, suc, ◌<◌, Bool, true, false, cond, not, ◌&&◌, ltb, List, [], ◌∷◌, ◌++◌, map, length, drop, set, sym, refl, ap, ◌∙◌, ap₂, arith}
+use Rattle.std.proofs.Common.{◌≡◌, ℕ, zero, suc, ◌<◌, Bool, true, false, cond, ltb, List, [], ◌∷◌, ◌++◌, map, length, drop, set, sym, refl, ap, ◌∙◌, ap₂, arith}
 use lib.ListN.{length-map}
 use Rattle.std.proofs.lemmas.Bool.{ltb-true}
 use Rattle.words.specs.Words.{bits, value, bit_at, word, put, front, rest}
 use Rattle.words.specs.Runs.{running}
 use Rattle.words.proofs.Bits.{bits_of_value, value_bits}
-use Rattle.circuit.specs.Circuit.{Circuit, Board, settle, inputs, signals, pin_levels, address, datum, tick, store_pin, emit_pin, take_pin, halt_pins}
+use Rattle.circuit.specs.Circuit.{Board, settle, inputs, signals, pin_levels, address, datum, tick, store_pin, emit_pin, take_pin, halt_pins}
 use Rattle.circuit.specs.Parts.{Gates}
 use Rattle.circuit.proofs.Settling.{settle_obeys, kept, kept_word, below_test, below_by_test}
 use Rattle.circuit.proofs.Reading.{line_levels, file_levels}

@@ -1,6 +1,6 @@
 -- The control lines: what each is, by the operation's bits and the phase. In order: the record of all lines, lines with
 -- their inverses, the number's upper bits, and the lines one from the other.
-use Rattle.std.proofs.Common.{◌≡◌, ℕ, ◌+◌, ◌-◌, Bool, true, false, not, ◌&&◌, ltb, List, [], ◌∷◌, length, sym, refl, ap, ◌∙◌, ap₂}
+use Rattle.std.proofs.Common.{◌≡◌, ℕ, ◌+◌, ◌-◌, Bool, true, not, ◌&&◌, ltb, sym, refl, ap, ◌∙◌, ap₂}
 use Rattle.words.specs.Words.{nand}
 use Rattle.circuit.proofs.Settling.{Obeys, obeys_at, gate_at}
 use Rattle.circuit.proofs.Words.{inverts_one, and_two, not_not}

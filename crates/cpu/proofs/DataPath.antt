@@ -1,16 +1,16 @@
 -- What the drawing's words are, each from the words before it: one fact a stage, all of one assignment of levels. In
 -- order: the port, the adder and its words, NAND, less and zero, the result, the registers, the program counter, the
 -- address.
-use Rattle.std.proofs.Common.{◌≡◌, ℕ, zero, suc, ◌+◌, Bool, true, false, cond, not, ◌&&◌, ltb, List, [], ◌∷◌, ◌++◌, map, length, get_or, set, replicate, sym, refl, ap, ◌∙◌, ap₂}
+use Rattle.std.proofs.Common.{◌≡◌, ℕ, ◌+◌, Bool, false, cond, not, ◌&&◌, ltb, [], ◌∷◌, ◌++◌, map, get_or, set, replicate, refl, ap, ◌∙◌, ap₂}
 use Rattle.words.specs.Words.{bit, bits, value, nand, nands}
 use Rattle.words.proofs.Bits.{word_of_sum, all_low}
 use Rattle.circuit.proofs.Words.{inverts_one, and_two, nands_are, chooses, chooses_either, lows, inverts_if, tests_zero}
 use Rattle.circuit.proofs.Adding.{adds}
 use Rattle.circuit.proofs.Reading.{Inverses, line_levels, file_levels, paired_inverses, reads}
 use Rattle.circuit.proofs.Writing.{writes}
-use Rattle.cpu.specs.Signals.{from, LOW, HIGH, INSTRUCTION, TAPE, LOW_BYTE, FIELD_M, FIELD_B, FIELD_A, FIELD_D, NUMBER_6, NUMBER_7, NUMBER_8, OP_0, OP_1, OP_2, OP_3, PROGRAM_COUNTER, REGISTERS, OPERAND, RESULT, TARGET, PHASE_1, PHASE_2, WRITES, LOADS, late_index_start, index_start, select_start, read_start, first_start, second_start, addend_start, adder_start, nand_start, less_start, zero_start, nand_or_less_start, half_or_low_start, below_4_start, from_4_start, below_8_start, from_8_start, result_start, written_start, write_select_start, write_start, jump_start, counter_start, address_start}
-use Rattle.cpu.specs.Control.{NOT_OP_0, NOT_OP_1, NOT_OP_2, NOT_OP_3, FROM_4, BELOW_4, NOT_PHASE_1, NOT_PHASE_2, NOT_LOADS, OP_ZERO, FIRST_IS_COUNTER, FIRST_IS_OPERAND, SUBTRACT, CARRY_IN, SECOND_IS_PORT, SECOND_IS_NUMBER, SIGN_6, SIGN_7, SIGN_8, NOT_JUMP, JUMP}
-use Rattle.cpu.specs.Stages.{LATE_INDEX, INDEX, READ_SELECT, PORT, FIRST, NUMBER, SECOND, ADDEND, SUM, CARRY, NANDED, IS_LESS, IS_ZERO, LESS_WORD, HALF_WORD, LOW_WORD, HIGH_WORD, NAND_OR_LESS, HALF_OR_LOW, RESULT_BELOW_4, RESULT_FROM_4, RESULT_BELOW_8, RESULT_FROM_8, NEXT_RESULT, WRITTEN, NOT_WRITES, WRITE_SELECT, NEXT_REGISTERS, NOT_BRANCH, BRANCH, NOT_TAKEN, TO_SUM, NOT_TO_SUM, STAY_OR_JUMP, NEXT_COUNTER, ADDRESS}
+use Rattle.cpu.specs.Signals.{HIGH, INSTRUCTION, TAPE, FIELD_M, FIELD_B, FIELD_A, FIELD_D, NUMBER_6, NUMBER_7, NUMBER_8, OP_0, OP_1, OP_2, OP_3, PROGRAM_COUNTER, REGISTERS, OPERAND, RESULT, TARGET, PHASE_1, PHASE_2, WRITES, LOADS, late_index_start, index_start, select_start, read_start, first_start, second_start, addend_start, adder_start, nand_start, less_start, zero_start, nand_or_less_start, half_or_low_start, below_4_start, from_4_start, below_8_start, from_8_start, result_start, written_start, write_select_start, write_start, jump_start, counter_start, address_start}
+use Rattle.cpu.specs.Control.{NOT_OP_0, NOT_OP_1, NOT_OP_2, NOT_OP_3, FROM_4, BELOW_4, NOT_PHASE_1, NOT_PHASE_2, NOT_LOADS, OP_ZERO, FIRST_IS_COUNTER, FIRST_IS_OPERAND, SUBTRACT, CARRY_IN, SECOND_IS_PORT, SECOND_IS_NUMBER, NOT_JUMP, JUMP}
+use Rattle.cpu.specs.Stages.{LATE_INDEX, INDEX, READ_SELECT, PORT, FIRST, NUMBER, SECOND, ADDEND, SUM, CARRY, NANDED, IS_LESS, IS_ZERO, LESS_WORD, HALF_WORD, LOW_WORD, HIGH_WORD, NAND_OR_LESS, HALF_OR_LOW, RESULT_BELOW_4, RESULT_FROM_4, RESULT_BELOW_8, RESULT_FROM_8, NEXT_RESULT, WRITTEN, NOT_WRITES, WRITE_SELECT, NEXT_REGISTERS, NOT_BRANCH, BRANCH, TO_SUM, NOT_TO_SUM, STAY_OR_JUMP, NEXT_COUNTER, ADDRESS}
 use Rattle.cpu.proofs.Drawing.{drawing, Staged}
 use Rattle.cpu.proofs.ControlLines.{not_op_0, not_op_1, not_op_2, not_op_3, not_from_4, not_phase_1, not_phase_2, not_loads, not_first_is_counter, not_jump, sign_6, sign_7, sign_8}
 

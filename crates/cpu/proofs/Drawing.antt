@@ -1,12 +1,12 @@
 -- The drawing opened where it has to be computed: its size and soundness, and that settled levels obey each stage at the
 -- place where the drawing says that it stands.
-use Rattle.std.proofs.Common.{◌≡◌, ℕ, zero, suc, Bool, true, false, List, [], ◌∷◌, ◌++◌, length, refl}
-use Rattle.circuit.specs.Circuit.{Circuit, Whole, SoundGates}
-use Rattle.circuit.specs.Parts.{Gates, join, inverter_gates, inverter_results, nand_gates, nand_results, mux_gates, mux_results, invert_if_gates, invert_if_results, zero_gates, zero_result}
+use Rattle.std.proofs.Common.{◌≡◌, ℕ, Bool, length, refl}
+use Rattle.circuit.specs.Circuit.{Whole, SoundGates}
+use Rattle.circuit.specs.Parts.{inverter_gates, inverter_results, nand_gates, nand_results, mux_gates, mux_results, invert_if_gates, invert_if_results, zero_gates, zero_result}
 use Rattle.circuit.specs.PartsAdder.{adder_gates, adder_results, adder_carry}
 use Rattle.circuit.specs.PartsRegisters.{level_gates, level_results, read_gates, read_results, split_gates, split_results, decoder, keep_gates, keep_results, write_gates, write_results}
 use Rattle.circuit.proofs.Settling.{Obeys, ObeysEach, obeys_each, sound_by_test, below_by_test}
-use Rattle.cpu.specs.Signals.{INSTRUCTION, TAPE, PROGRAM_COUNTER, REGISTERS, OPERAND, RESULT, flop_count, gate_count, signal_count, control_start, late_index_start, index_start, select_start, read_start, first_start, second_start, addend_start, adder_start, nand_start, less_start, zero_start, nand_or_less_start, half_or_low_start, below_4_start, from_4_start, below_8_start, from_8_start, result_start, written_start, write_select_start, write_start, branch_start, jump_start, counter_start, address_start}
+use Rattle.cpu.specs.Signals.{INSTRUCTION, TAPE, PROGRAM_COUNTER, REGISTERS, OPERAND, RESULT, gate_count, signal_count, control_start, late_index_start, index_start, select_start, read_start, first_start, second_start, addend_start, adder_start, nand_start, less_start, zero_start, nand_or_less_start, half_or_low_start, below_4_start, from_4_start, below_8_start, from_8_start, result_start, written_start, write_select_start, write_start, branch_start, jump_start, counter_start, address_start}
 use Rattle.cpu.specs.Control.{control_stage}
 use Rattle.cpu.specs.Stages.{late_index_stage, LATE_INDEX, index_stage, INDEX, select_stage, READ_SELECT, read_stage, PORT, first_stage, FIRST, NUMBER, second_stage, SECOND, addend_stage, ADDEND, adder_stage, SUM, CARRY, nand_stage, NANDED, less_stage, zero_stage, IS_ZERO, LESS_WORD, HALF_WORD, LOW_WORD, HIGH_WORD, nand_or_less_stage, NAND_OR_LESS, half_or_low_stage, HALF_OR_LOW, below_4_stage, RESULT_BELOW_4, from_4_stage, RESULT_FROM_4, below_8_stage, RESULT_BELOW_8, from_8_stage, RESULT_FROM_8, result_stage, NEXT_RESULT, written_stage, WRITTEN, write_select_stage, WRITE_SELECT, write_stage, NEXT_REGISTERS, branch_stage, jump_stage, STAY_OR_JUMP, counter_stage, NEXT_COUNTER, address_stage, ADDRESS}
 use Rattle.cpu.specs.Cpu.{stages, cpu_gates, cpu_flops, cpu_next, cpu_pins, cpu}

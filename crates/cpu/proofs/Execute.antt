@@ -1,14 +1,14 @@
 -- The second cycle of an instruction, in which its work is done: what the drawing's words are, by the machine's words. In
 -- order: the levels of this cycle, the port, the instruction's number, the adder's words, where the machine goes on, the
 -- address of load and store, and the result of each operation.
-use Rattle.std.proofs.Common.{◌≡◌, ℕ, zero, suc, ◌+◌, ◌-◌, ◌*◌, ◌/◌, ◌%◌, ◌<◌, Bool, true, false, cond, not, ◌&&◌, eqb, ltb, List, [], ◌∷◌, ◌++◌, map, length, take, drop, replicate, sym, refl, ap, ◌∙◌, ap₂, arith}
+use Rattle.std.proofs.Common.{◌≡◌, ℕ, ◌+◌, ◌-◌, ◌*◌, ◌/◌, ◌%◌, ◌<◌, Bool, true, false, cond, not, eqb, ltb, List, [], ◌∷◌, ◌++◌, map, take, drop, replicate, sym, refl, ap, ◌∙◌, ap₂, arith}
 use Rattle.words.specs.Words.{add16, sub16, less16, nand16, half16, bit, bits, value, shifted, nand, nands, word, front}
 use Rattle.words.proofs.Bits.{value_bits, value_bits_16, value_++, all_low_is}
 use Rattle.words.proofs.Lists.{word_below, front_below}
 use Rattle.words.proofs.Low.{low_6, low_8, low_9, low_16, less_by_inverse}
 use Rattle.circuit.proofs.Words.{not_not}
 use Rattle.circuit.proofs.Reading.{line_levels}
-use Rattle.machine.specs.Machine.{Machine, Fields, decode, fetched, register, following, place, target}
+use Rattle.machine.specs.Machine.{Machine, fetched, register, following, place, target}
 use Rattle.cpu.specs.Signals.{LOW, INSTRUCTION, LOW_BYTE, FIELD_M, FIELD_N, NUMBER_6, NUMBER_7, NUMBER_8, OP_0, OP_1, OP_2, OP_3, OPERAND, PROGRAM_COUNTER}
 use Rattle.cpu.specs.Control.{FROM_4, OP_ZERO, FIRST_IS_COUNTER, SUBTRACT, CARRY_IN, SECOND_IS_PORT, SECOND_IS_NUMBER, JUMP}
 use Rattle.cpu.specs.Stages.{READ_SELECT, PORT, FIRST, NUMBER, SECOND, ADDEND, SUM, CARRY, IS_LESS, IS_ZERO, LESS_WORD, HALF_WORD, LOW_WORD, HIGH_WORD, NEXT_RESULT, NEXT_COUNTER, ADDRESS}

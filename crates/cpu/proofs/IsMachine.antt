@@ -1,17 +1,17 @@
 -- The drawing is the instruction machine: from power on, at every instruction, and so as the statement about drawings
 -- asks. Three cycles an instruction and one at the start.
-use Rattle.std.proofs.Common.{◌≡◌, ℕ, zero, suc, ◌+◌, ◌*◌, ◌<◌, ◌≤◌, Bool, true, false, ◌⊎◌, List, [], ◌∷◌, ◌++◌, length, replicate, sym, refl, ap, ◌∙◌, subst, inl, inr, arith}
+use Rattle.std.proofs.Common.{◌≡◌, ℕ, zero, suc, ◌+◌, ◌*◌, ◌<◌, false, List, replicate, sym, refl, ap, ◌∙◌, subst, inl, inr, arith}
 use Rattle.words.specs.Words.{IsMemory, IsTape}
-use Rattle.words.specs.Runs.{Seen, Prefix, Follows, running}
+use Rattle.words.specs.Runs.{Prefix, Follows}
 use Rattle.words.proofs.Runs.{Tracks, tracks_follows}
-use Rattle.circuit.specs.Circuit.{Circuit, Board, tick, ticks, power_on, board_run, seen_board}
+use Rattle.circuit.specs.Circuit.{Board, tick, ticks, power_on, board_run}
 use Rattle.circuit.proofs.Ticking.{ticks_add, shown_stays, halted_stays, board_grows}
-use Rattle.machine.specs.Machine.{Machine, step, steps, begin, machine_run, seen_machine}
+use Rattle.machine.specs.Machine.{Machine, step, steps, begin, machine_run}
 use Rattle.drawing.specs.Drawing.{HaltedAlike, IsMachine, course_cycles}
 use Rattle.cpu.specs.Cpu.{cpu_flops, cpu}
 use Rattle.cpu.proofs.Drawing.{whole}
 use Rattle.cpu.proofs.Board.{held}
-use Rattle.cpu.proofs.States.{WordsIn, Stands}
+use Rattle.cpu.proofs.States.{Stands}
 use Rattle.cpu.proofs.Phases.{ends_at}
 use Rattle.cpu.proofs.Simulation.{instruction}
 

@@ -1,7 +1,7 @@
 -- What is left of a part after some bits, one bit further: for each part's loop its step, and the number of its gates.
-use Rattle.std.proofs.Common.{◌≡◌, ℕ, zero, suc, ◌+◌, ◌-◌, ◌*◌, ◌<◌, ◌≤◌, List, [], ◌∷◌, ◌++◌, length, get_or, drop, sym, refl, ap, ◌∙◌, arith}
+use Rattle.std.proofs.Common.{◌≡◌, ℕ, suc, ◌+◌, ◌*◌, ◌<◌, List, [], ◌∷◌, ◌++◌, length, get_or, drop, refl, ap, arith}
 use Rattle.std.proofs.lemmas.List.{drop_more}
-use Rattle.circuit.specs.Parts.{Gates, plus3, plus4, inverter_gates, nand_gates, mux_gates, invert_if_gates, zero_gates}
+use Rattle.circuit.specs.Parts.{plus3, plus4, inverter_gates, nand_gates, mux_gates, invert_if_gates, zero_gates}
 use Rattle.circuit.specs.PartsAdder.{plus9, adder_gates}
 use Rattle.cpu.specs.Ink.{ink}
 

@@ -1,11 +1,10 @@
 -- A sheet that holds the flip-flops' values, the gates, the next signals and the pins, one behind the other, holds the
 -- circuit; so what draw writes is the drawing.
-use Rattle.std.proofs.Common.{◌≡◌, ℕ, zero, suc, ◌+◌, ◌-◌, ◌*◌, ◌<◌, ◌≤◌, Bool, List, [], ◌∷◌, ◌++◌, length, take, drop, sym, refl, ap, ◌∙◌, subst, ap₂, arith, take-append-drop}
+use Rattle.std.proofs.Common.{◌≡◌, ℕ, ◌+◌, ◌*◌, ◌≤◌, List, [], ◌∷◌, ◌++◌, length, take, drop, sym, refl, ap, ◌∙◌, subst, ap₂, arith, take-append-drop}
 use Rattle.std.proofs.lemmas.List.{take_at, drop_at, drop-drop, append_assoc}
-use Rattle.circuit.specs.Circuit.{Circuit, pin_count}
+use Rattle.circuit.specs.Circuit.{pin_count}
 use Rattle.circuit.specs.Sheet.{drawn, levels, pairs, sheet_size}
 use Rattle.circuit.specs.Parts.{Gates}
-use Rattle.drawing.specs.Drawing.{IsMachine, course_cycles}
 use Rattle.cpu.specs.Signals.{flop_count, gate_count}
 use Rattle.cpu.specs.Cpu.{cpu, cpu_flops, cpu_gates, cpu_next, cpu_pins}
 use Rattle.cpu.specs.Ink.{ink, Drew}

@@ -1,6 +1,6 @@
 -- The first and the third cycle of an instruction. In order: a cycle's end by its words, the fields of the instruction in
 -- hand, the register that is read, the first cycle, the third cycle, and that it ends at the machine's next state.
-use Rattle.std.proofs.Common.{◌≡◌, ℕ, zero, suc, ◌+◌, ◌-◌, ◌*◌, ◌/◌, ◌%◌, ◌<◌, Bool, true, false, cond, not, ◌&&◌, List, [], ◌∷◌, ◌++◌, map, length, get_or, take, drop, sym, refl, ap, ◌∙◌, ap₂, inl, arith}
+use Rattle.std.proofs.Common.{◌≡◌, ℕ, zero, suc, ◌+◌, ◌/◌, ◌%◌, ◌<◌, Bool, true, false, cond, List, [], ◌∷◌, map, length, get_or, take, drop, refl, ap, ◌∙◌, ap₂, inl, arith}
 use Rattle.words.specs.Words.{add16, bit, bits, value, word, put, front, IsTape}
 use Rattle.words.specs.Runs.{running}
 use Rattle.words.proofs.Bits.{value_bits_16}
@@ -17,7 +17,7 @@ use Rattle.cpu.proofs.ControlLines.{Control, control}
 use Rattle.cpu.proofs.DataPath.{index_is, port_is, first_is, second_is, addend_is, sum_is, counter_is, address_is}
 use Rattle.cpu.proofs.Board.{held, Settled, settled, each_bits, all_levels, after_cycle, moved, ticked}
 use Rattle.machine.specs.Machine.{Machine}
-use Rattle.cpu.proofs.States.{WordsIn, ready, second, third, Ready, Stands}
+use Rattle.cpu.proofs.States.{WordsIn, ready, second, third, Stands}
 
 -- a cycle's end, by its words
 pub ends_by : (f : ℕ → Bool) (b : Board) (regs : List ℕ) (pc p r d a : ℕ) (p1 p2 p3 wr ld st em tk : Bool) (h : ℕ) → value (map f NEXT_COUNTER) ≡ pc → value (map f PORT) ≡ p → value (map f NEXT_RESULT) ≡ r → value (map f FIELD_D) ≡ d → value (map f ADDRESS) ≡ a →

@@ -1,8 +1,8 @@
 -- What is left of a port's level, split or registers after some turns of its loop, one turn further; and how many numbers
 -- each takes, for words of sixteen bits.
-use Rattle.std.proofs.Common.{◌≡◌, ℕ, zero, suc, ◌+◌, ◌-◌, ◌*◌, ◌/◌, ◌<◌, ◌≤◌, List, [], ◌∷◌, ◌++◌, length, get_or, drop, sym, refl, ap, ◌∙◌, arith}
+use Rattle.std.proofs.Common.{◌≡◌, ℕ, suc, ◌+◌, ◌*◌, ◌/◌, ◌<◌, ◌≤◌, List, [], ◌∷◌, ◌++◌, length, get_or, drop, sym, refl, ap, ◌∙◌, arith}
 use Rattle.std.proofs.lemmas.List.{drop_more, length-append}
-use Rattle.circuit.specs.Parts.{Gates, after, plus4, mux_gates}
+use Rattle.circuit.specs.Parts.{after, plus4, mux_gates}
 use Rattle.circuit.specs.PartsRegisters.{level_gates, split_gates, keep_gates}
 use Rattle.circuit.proofs.Settling.{after_length}
 use Rattle.cpu.specs.Cpu.{flat}

@@ -1,7 +1,6 @@
 -- An instruction puts out at most one word, so the words shown are no more than the instructions done.
-use Rattle.std.proofs.Common.{◌≡◌, ℕ, zero, suc, ◌+◌, ◌*◌, ◌/◌, ◌≤◌, List, [], ◌∷◌, ◌++◌, length, sym, refl, ap, subst, arith}
+use Rattle.std.proofs.Common.{◌≡◌, ℕ, zero, suc, ◌+◌, ◌/◌, ◌≤◌, List, [], ◌∷◌, ◌++◌, length, sym, ap, subst, arith}
 use Rattle.std.proofs.lemmas.List.{length-append}
-use Rattle.words.specs.Words.{IsMemory, IsTape}
 use Rattle.words.specs.Runs.{Seen, Prefix}
 use Rattle.circuit.specs.Circuit.{board_run}
 use Rattle.circuit.proofs.Ticking.{board_grows}

@@ -1,22 +1,21 @@
 -- The board with the drawing goes along with the instruction machine: three cycles an instruction. In order: the second
 -- cycle by its words; a register that takes a word; each operation; the instruction whole.
-use Rattle.std.proofs.Common.{◌≡◌, ℕ, zero, suc, ◌+◌, ◌-◌, ◌*◌, ◌/◌, ◌%◌, ◌<◌, Bool, true, false, cond, not, ◌&&◌, eqb, ltb, ◌⊎◌, List, [], ◌∷◌, ◌++◌, map, length, sym, refl, ap, ◌∙◌, subst, ap₂, inl, inr, arith}
+use Rattle.std.proofs.Common.{◌≡◌, ℕ, suc, ◌+◌, ◌*◌, ◌/◌, ◌%◌, ◌<◌, Bool, true, false, cond, not, ◌&&◌, eqb, ltb, [], ◌∷◌, map, sym, refl, ap, ◌∙◌, subst, inl, inr, arith}
 use Rattle.std.proofs.lemmas.List.{length-set}
-use Rattle.words.specs.Words.{add16, sub16, less16, nand16, half16, bits, value, nand, nands, word, put, front, rest}
+use Rattle.words.specs.Words.{add16, sub16, less16, nand16, half16, bits, value, nand, nands, word, front}
 use Rattle.words.specs.Runs.{running}
 use Rattle.words.proofs.Bits.{value_below}
 use Rattle.words.proofs.Lists.{word_below, put_below, front_below, rest_below}
 use Rattle.words.proofs.Low.{low_4}
 use Rattle.circuit.specs.Circuit.{Board, tick, ticks, cycle, pin_levels}
 use Rattle.machine.specs.Machine.{Machine, Op, Add, Sub, Nand, Less, Half, Low, High, Load, Store, Zero, Jump, In, Out, Done, Index, Full, act, operation, fetched, register, following, place, target, set_register, execute, step}
-use Rattle.drawing.specs.Drawing.{HaltedAlike}
-use Rattle.cpu.specs.Signals.{FIELD_D, OP_0, OP_1, OP_2, OP_3}
+use Rattle.cpu.specs.Signals.{OP_0, OP_1, OP_2, OP_3}
 use Rattle.cpu.specs.Control.{FROM_4}
 use Rattle.cpu.specs.Stages.{PORT, NEXT_RESULT, NEXT_COUNTER, ADDRESS}
 use Rattle.cpu.specs.Cpu.{cpu}
 use Rattle.cpu.proofs.ControlLines.{Control}
 use Rattle.cpu.proofs.Board.{held, after_cycle, moved, ticked}
-use Rattle.cpu.proofs.States.{WordsIn, ready, second, third, Ready, Stopped, Stands}
+use Rattle.cpu.proofs.States.{WordsIn, second, Stands}
 use Rattle.cpu.proofs.Phases.{ends_by, d_is, field_op, first_tick, ends_at}
 use Rattle.cpu.proofs.Execute
 

@@ -1,6 +1,6 @@
 -- The control lines by name, and the gates that make them. A line that begins with NOT is the inverse of the one after
 -- it, or a step on the way to it: an AND is a NAND and an inverter.
-use Rattle.std.specs.Prelude.{ℕ, List, [], ◌∷◌}
+use Rattle.std.specs.Prelude.{ℕ, [], ◌∷◌}
 use Rattle.circuit.specs.Parts.{Gates}
 use Rattle.cpu.specs.Signals.{OP_0, OP_1, OP_2, OP_3, PHASE_1, PHASE_2, LOADS, NUMBER_6, NUMBER_7, NUMBER_8}
 

@@ -1,5 +1,5 @@
 -- The drawing as one circuit: its stages in order, what the flip-flops hold at power on and next, and the pins.
-use Rattle.std.specs.Prelude.{ℕ, zero, suc, Bool, true, false, List, [], ◌∷◌, ◌++◌, length, replicate}
+use Rattle.std.specs.Prelude.{ℕ, List, [], ◌∷◌, ◌++◌, length, replicate}
 use Rattle.circuit.specs.Circuit.{Circuit}
 use Rattle.circuit.specs.Sheet.{levels}
 use Rattle.circuit.specs.Parts.{Gates, after, join}

@@ -1,5 +1,5 @@
 -- The signals of the drawing by name: what comes in, the flip-flops, the control lines, and where each stage begins.
-use Rattle.std.specs.Prelude.{ℕ, zero, suc, ◌+◌, List, [], ◌∷◌, ◌++◌}
+use Rattle.std.specs.Prelude.{ℕ, zero, suc, List, [], ◌∷◌}
 
 -- k signals from n on
 abbrev pub from : ℕ → ℕ → List ℕ

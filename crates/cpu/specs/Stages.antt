@@ -4,13 +4,12 @@
 -- 2. the instruction is handed over once more; the port reads register b or d; the adder adds, subtracts, compares or
 --    makes an address; the pins speak; the result and the number of its register are kept; a branch or jump is taken;
 -- 3. the register takes the result or the word from memory, while the next instruction is asked for.
-use Rattle.std.specs.Prelude.{ℕ, zero, suc, Bool, true, false, List, [], ◌∷◌, ◌++◌, take, drop, replicate}
-use Rattle.circuit.specs.Circuit.{Circuit}
+use Rattle.std.specs.Prelude.{ℕ, List, [], ◌∷◌, ◌++◌, take, drop, replicate}
 use Rattle.circuit.specs.Parts.{Gates, paired, inverter_gates, inverter_results, nand_gates, nand_results, mux_gates, mux_results, invert_if_gates, invert_if_results, zero_gates, zero_result}
 use Rattle.circuit.specs.PartsAdder.{adder_gates, adder_results, adder_carry}
 use Rattle.circuit.specs.PartsRegisters.{read_gates, read_results, write_gates, write_results}
-use Rattle.cpu.specs.Signals.{LOW, HIGH, INSTRUCTION, TAPE, FIELD_N, FIELD_M, LOW_BYTE, FIELD_B, FIELD_A, FIELD_D, OP_0, OP_1, OP_2, OP_3, PROGRAM_COUNTER, REGISTERS, OPERAND, RESULT, TARGET, PHASE_1, PHASE_2, PHASE_3, WRITES, LOADS, late_index_start, index_start, select_start, read_start, first_start, second_start, addend_start, adder_start, nand_start, less_start, zero_start, nand_or_less_start, half_or_low_start, below_4_start, from_4_start, below_8_start, from_8_start, result_start, written_start, write_select_start, write_start, branch_start, jump_start, counter_start, address_start}
-use Rattle.cpu.specs.Control.{control_stage, NOT_OP_0, NOT_OP_1, NOT_OP_2, NOT_OP_3, FROM_4, BELOW_4, NOT_PHASE_1, NOT_PHASE_2, NOT_LOADS, OP_ZERO, FIRST_IS_COUNTER, FIRST_IS_OPERAND, SUBTRACT, CARRY_IN, SECOND_IS_PORT, SECOND_IS_NUMBER, SIGN_6, SIGN_7, SIGN_8, NOT_JUMP, JUMP, STORE, EMIT, TAKE, HALT_0, HALT_1, LOAD, WRITE}
+use Rattle.cpu.specs.Signals.{LOW, HIGH, INSTRUCTION, TAPE, FIELD_N, FIELD_M, LOW_BYTE, FIELD_B, FIELD_A, FIELD_D, OP_0, OP_1, OP_2, OP_3, PROGRAM_COUNTER, REGISTERS, OPERAND, RESULT, TARGET, PHASE_1, PHASE_2, WRITES, LOADS, late_index_start, index_start, select_start, read_start, first_start, second_start, addend_start, adder_start, nand_start, less_start, zero_start, nand_or_less_start, half_or_low_start, below_4_start, from_4_start, below_8_start, from_8_start, result_start, written_start, write_select_start, write_start, jump_start, counter_start, address_start}
+use Rattle.cpu.specs.Control.{NOT_OP_0, NOT_OP_1, NOT_OP_2, NOT_OP_3, FROM_4, BELOW_4, NOT_PHASE_1, NOT_PHASE_2, NOT_LOADS, OP_ZERO, FIRST_IS_COUNTER, FIRST_IS_OPERAND, SUBTRACT, CARRY_IN, SECOND_IS_PORT, SECOND_IS_NUMBER, SIGN_6, SIGN_7, SIGN_8, NOT_JUMP, JUMP}
 
 -- Which register is read: a in phase 1, then b, or d where the operation is 4 or more.
 unfoldable pub late_index_stage : Gates

@@ -1,7 +1,7 @@
 -- A stored word is there when it is wanted. Memory hands over the word that stood at the address before a store of the
 -- same cycle; so a machine that stored and asked in one cycle would get the old word. Ours never does: a store happens in
 -- an instruction's second cycle, and the next word that anybody takes is asked for in its third.
-use Rattle.std.specs.Prelude.{◌≡◌, ℕ, zero, suc, ◌+◌, ◌-◌, ◌*◌, Bool, true, false, List, length, take, drop}
+use Rattle.std.specs.Prelude.{◌≡◌, ℕ, zero, suc, ◌-◌, ◌*◌, Bool, true, false, List, length, take, drop}
 use Rattle.words.specs.Words.{value, bit_at, IsMemory, IsTape}
 use Rattle.words.specs.Runs.{running}
 use Rattle.circuit.specs.Circuit.{Board, input_signals, store_pin, pin_levels, tick, ticks, power_on}

@@ -1,5 +1,5 @@
 -- A number in decimal: digits, at least one, the highest first.
-use Rattle.std.specs.Prelude.{◌≡◌, ℕ, ◌+◌, ◌-◌, ◌*◌, ◌<◌, Bool, true, false, ◌&&◌, T, List, [], ◌∷◌, length, nat_le}
+use Rattle.std.specs.Prelude.{◌≡◌, ℕ, ◌+◌, ◌-◌, ◌*◌, ◌<◌, Bool, true, ◌&&◌, T, List, [], ◌∷◌, length, nat_le}
 
 -- the bytes 48 to 57
 abbrev pub is_digit : ℕ → Bool

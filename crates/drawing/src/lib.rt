@@ -1,3 +1,2 @@
 // The statement is in specs/; this crate has no code.
 #![tactic(auto)]
-

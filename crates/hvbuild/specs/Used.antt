@@ -1,5 +1,5 @@
 -- The used length of an image: up to the last word that isn't 0.
-use Rattle.std.specs.Prelude.{◌≡◌, ℕ, ◌+◌, ◌<◌, ◌≤◌, List, length, ◌≢◌, slice_index}
+use Rattle.std.specs.Prelude.{◌≡◌, ℕ, ◌+◌, ◌≤◌, List, length, ◌≢◌, slice_index}
 
 pub record Used (image : List ℕ) (r : ℕ) : Type 0 where
   pub within : r ≤ length image

@@ -1,5 +1,5 @@
 -- The course language and what a program does.
-use Rattle.std.specs.Prelude.{◌≡◌, Bool, true, false, cond, List, [], ◌∷◌, ◌++◌, ℕ, zero, suc, ◌+◌, ◌-◌, ◌<◌, ◌≤◌, max, eqb, ltb, length, replicate}
+use Rattle.std.specs.Prelude.{◌≡◌, cond, List, [], ◌∷◌, ◌++◌, ℕ, zero, suc, ◌+◌, ◌-◌, ◌<◌, ◌≤◌, max, eqb, ltb, length, replicate}
 use Rattle.std.proofs.Math.Option.{Option, some, none}
 use Rattle.words.specs.Words.{add16, sub16, less16, nand16, half16, word, put, front, rest}
 use Rattle.words.specs.Runs.{Seen, Prefix, running, ended_done, ended_index, ended_full}

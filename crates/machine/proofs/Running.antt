@@ -1,6 +1,6 @@
 -- A run in steps, as the code goes through it: nothing done yet, one step more, a step without room, and a
 -- halt before the last.
-use Rattle.std.proofs.Common.{◌≡◌, ℕ, zero, suc, ◌+◌, ◌-◌, ◌<◌, ◌≤◌, List, length, drop, sym, refl, ap, ◌∙◌, subst, arith}
+use Rattle.std.proofs.Common.{◌≡◌, ℕ, suc, ◌+◌, ◌-◌, ◌<◌, ◌≤◌, List, length, drop, sym, refl, ap, ◌∙◌, subst, arith}
 use Rattle.std.proofs.lemmas.List.{drop-drop}
 use Rattle.machine.specs.Machine.{Machine, step, steps}
 use Rattle.machine.specs.Processor.{machine_of, ending_of, Reached, NoRoom}

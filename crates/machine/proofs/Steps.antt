@@ -1,7 +1,7 @@
 -- Steps in a row: some and then some more; a halted machine stays; a step puts out at most one word and takes nothing
 -- back; so a run of the machine only grows.
-use Rattle.std.proofs.Common.{◌≡◌, ℕ, zero, suc, ◌+◌, ◌-◌, ◌<◌, ◌≤◌, List, [], ◌∷◌, ◌++◌, sym, refl, ap, ◌∙◌, subst, suc-add, zero-add, arith}
-use Rattle.words.specs.Runs.{Seen, Prefix}
+use Rattle.std.proofs.Common.{◌≡◌, ℕ, zero, suc, ◌+◌, ◌-◌, ◌<◌, ◌≤◌, List, sym, refl, ap, ◌∙◌, subst, suc-add, zero-add, arith}
+use Rattle.words.specs.Runs.{Prefix}
 use Rattle.words.proofs.Runs.{prefix_refl, prefix_trans, Grows}
 use Rattle.machine.specs.Machine.{Machine, Fields, Op, Add, Sub, Nand, Less, Half, Low, High, Load, Store, Zero, Jump, In, Out, Done, Index, Full, act, execute, unless_halted, step, steps, begin, seen_machine, machine_run}
 

@@ -1,9 +1,9 @@
 -- The tape's next word goes into a register: a processor that has it there and counts the words taken stands for the
 -- machine after 'in'.
-use Rattle.std.proofs.Common.{◌≡◌, ℕ, List, drop, sym, refl, ap, ◌∙◌}
+use Rattle.std.proofs.Common.{◌≡◌, ℕ, List, drop, refl, ap, ◌∙◌}
 use Rattle.words.specs.Words.{front, rest}
 use Rattle.words.specs.Runs.{running}
-use Rattle.machine.specs.Machine.{Fields, Machine, In, act}
+use Rattle.machine.specs.Machine.{Fields, In, act}
 use Rattle.machine.specs.Processor.{machine_of, with_register, ending_of}
 use Rattle.machine.specs.declared.processor.Processor.{Processor}
 use Rattle.machine.specs.declared.processor.Halt.TheVariants.{Running}

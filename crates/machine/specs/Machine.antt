@@ -1,5 +1,5 @@
 -- The instruction machine: 65,536 words of memory, eight registers, a program counter; one instruction a step.
-use Rattle.std.specs.Prelude.{ℕ, zero, suc, ◌+◌, ◌-◌, ◌*◌, ◌/◌, ◌%◌, Bool, true, false, cond, List, [], ◌∷◌, ◌++◌, replicate, ◌==◌, nat_lt, slice_index_or}
+use Rattle.std.specs.Prelude.{ℕ, zero, suc, ◌+◌, ◌-◌, ◌*◌, ◌/◌, ◌%◌, cond, List, [], ◌∷◌, ◌++◌, replicate, ◌==◌, nat_lt, slice_index_or}
 use Rattle.words.specs.Words.{add16, sub16, less16, nand16, half16, word, put, front, rest}
 use Rattle.words.specs.Runs.{Seen, running, ended_done, ended_index, ended_full}
 

@@ -2,7 +2,7 @@
 use Rattle.std.specs.Prelude.{◌≡◌, ℕ, suc, ◌<◌, ◌≤◌, List, length, take, drop, Some, None, Option, ◌≢◌}
 use Rattle.words.specs.Words.{add16, put, memory_size}
 use Rattle.words.specs.Runs.{running, ended_done, ended_index, ended_full}
-use Rattle.machine.specs.Machine.{Machine, Fields, step, steps}
+use Rattle.machine.specs.Machine.{Machine, Fields, steps}
 use Rattle.machine.specs.declared.instruction.Instruction.{Instruction}
 use Rattle.machine.specs.declared.processor.Halt.{Halt}
 use Rattle.machine.specs.declared.processor.Halt.TheVariants.{Running, Done, Index, Full}

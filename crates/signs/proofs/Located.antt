@@ -4,7 +4,7 @@ use mathlib.Core.List.{List, [], ◌∷◌, map}
 use Prim.Native.Nat.{ℕ, suc, ◌+◌}
 use native.Mathlib.Omega.{arith}
 use lib.ListN.{length}
-use Rattle.language.specs.Language.{Expr, num, loc, glob, cell, add, sub, nand, less, half, call, Stmt, skip, then, setloc, setglob, setcell, if, while, out, take, Proc, Program}
+use Rattle.language.specs.Language.{Expr, num, loc, glob, cell, add, sub, nand, less, half, call, Stmt, skip, then, setloc, setglob, setcell, if, while, out, take, Proc}
 use Rattle.language.specs.Limits.{signs_expr, signs_stmt, signs}
 use Rattle.codegen.specs.Codegen.{end_of_stmt, else_place, then_place, loop_place, body_place, end_of_proc}
 use Rattle.text.specs.Text.{write_expr, write_stmt}

@@ -1,9 +1,9 @@
 -- Each sign's writing stands in the text from its word on, and its code in the image from its place on.
-use mathlib.Core.Path.{◌≡◌, refl, sym, ◌∙◌, ap, subst}
+use mathlib.Core.Path.{◌≡◌, refl, ◌∙◌, ap, subst}
 use mathlib.Core.List.{List, [], ◌∷◌, ◌++◌, append_assoc}
 use Prim.Native.Nat.{ℕ, zero, suc}
 use lib.Dec.{T}
-use lib.ListN.{length, drop}
+use lib.ListN.{drop}
 use Rattle.language.specs.Language.{Expr, num, loc, glob, cell, add, sub, nand, less, half, call, Stmt, skip, then, setloc, setglob, setcell, if, while, out, take, Proc, Program}
 use Rattle.language.specs.Limits.{fits}
 use Rattle.codegen.specs.Codegen.{push, pop, go_to, go_unless_zero, add_code, sub_code, nand_code, less_code, load_cell, halve, store_local, store_global, store_cell, put_out, end_of_expr, end_of_stmt, else_place, then_place, loop_place, leave_frame, body_place, end_of_proc, first_proc, start_code, entry, code_expr, code_stmt, code_proc, code_procs, image}
@@ -16,7 +16,7 @@ use Rattle.codegen.proofs.Limits.{within_limits}
 use Rattle.codegen.proofs.Images.{code_stands}
 use Rattle.text.specs.Text.{words, write_expr, write_stmt, write_procs, Reads}
 use Rattle.signs.specs.Places.{second_place}
-use Rattle.signs.specs.Signs.{Located, expression, statement, procedure, here, words_past, locate_expr, locate_stmt, locate_procs, locate_signs, RightSign, RightSigns}
+use Rattle.signs.specs.Signs.{Located, expression, statement, here, words_past, locate_expr, locate_stmt, locate_procs, locate_signs, RightSign, RightSigns}
 
 abbrev Text : Type 0
 Text = List (List ℕ)

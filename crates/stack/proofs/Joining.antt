@@ -1,13 +1,12 @@
 -- The layers joined: the program's run, the machine's and the board's, one after the other; and from this what the lamps
 -- show after so many cycles.
-use Rattle.std.proofs.Common.{◌≡◌, ℕ, ◌<◌, ◌≤◌, List, sym, refl, ap, ◌∙◌}
-use Rattle.words.specs.Runs.{Seen, Follows}
+use Rattle.std.proofs.Common.{◌≡◌, refl, ◌∙◌}
 use Rattle.words.proofs.Runs.{joined, prefix_trans}
-use Rattle.circuit.specs.Circuit.{Circuit, board_run, ticks, power_on, seen_board}
+use Rattle.circuit.specs.Circuit.{board_run}
 use Rattle.circuit.proofs.Ticking.{board_grows}
-use Rattle.machine.specs.Machine.{begin, steps, machine_run, seen_machine}
+use Rattle.machine.specs.Machine.{begin, machine_run}
 use Rattle.language.specs.Language.{program_run}
-use Rattle.drawing.specs.Drawing.{HaltedAlike, course_cycles}
+use Rattle.drawing.specs.Drawing.{course_cycles}
 use Rattle.codegen.specs.Codegen.{image}
 use Rattle.codegen.proofs.Images.{images_right}
 use Rattle.stack.specs.Stack.{LayersJoin}

@@ -1,5 +1,5 @@
 -- From the slices that a run of the board leaves to what is seen of it, and from there to the program.
-use Rattle.std.proofs.Common.{◌≡◌, ℕ, zero, suc, ◌<◌, List, [], ◌∷◌, take, drop, sym, subst}
+use Rattle.std.proofs.Common.{◌≡◌, ℕ, suc, ◌<◌, List, [], ◌∷◌, take, drop, sym, subst}
 use Rattle.words.specs.Words.{word, IsTape}
 use Rattle.words.specs.Runs.{Seen}
 use Rattle.circuit.specs.Circuit.{Circuit, Board, seen_board, board_run}

@@ -8,7 +8,7 @@ use Rattle.language.specs.declared.nodes.Node.{Node}
 use Rattle.language.specs.declared.nodes.Node.TheVariants as N
 use Rattle.text.specs.declared.kinds.Kind.{Kind}
 use Rattle.text.specs.declared.kinds.Kind.TheVariants as K
-use Rattle.text.specs.Text.{decimal, write_expr, write_stmt, write_procs, writable, writable_expr, writable_stmt, writable_procs, fits_expr, fits_stmt, fits_procs, signs_expr, signs_stmt, signs, most_locals}
+use Rattle.text.specs.Text.{decimal, write_expr, write_stmt, write_procs, writable, writable_expr, writable_stmt, writable_procs, fits_expr, fits_stmt, fits_procs, signs_expr, signs_stmt, most_locals}
 use Rattle.text.specs.Kinds.{kind}
 use Rattle.text.specs.Shapes.{shape}
 use Rattle.text.specs.Bare.{bare, numbered}

@@ -1,7 +1,7 @@
 -- Lists of words: what is read, written, taken from the front, and left stays a list of words.
-use Rattle.std.proofs.Common.{◌≡◌, ℕ, zero, suc, ◌+◌, ◌<◌, List, [], ◌∷◌, length, get_or, drop, refl, ap, arith}
-use Rattle.std.proofs.lemmas.List.{drop_more, drop_all}
-use Rattle.words.specs.Words.{word, put, front, rest, All, IsTape}
+use Rattle.std.proofs.Common.{◌≡◌, ℕ, zero, suc, ◌+◌, ◌<◌, List, [], ◌∷◌, length, get_or, drop, ap, arith}
+use Rattle.std.proofs.lemmas.List.{drop_more}
+use Rattle.words.specs.Words.{word, put, front, rest, IsTape}
 
 pub word_below : (ws : List ℕ) (i : ℕ) → IsTape ws → word ws i < 65536
 word_below [] i h = omega arith

@@ -1,6 +1,6 @@
 -- The lowest bits of a number: their value is a remainder, at any width and at those that instructions have; halving
 -- several times; a word less another, by the other's inverse.
-use Rattle.std.proofs.Common.{◌≡◌, ℕ, zero, suc, ◌+◌, ◌-◌, ◌*◌, ◌/◌, ◌%◌, ◌<◌, Bool, true, false, not, List, [], ◌∷◌, ◌++◌, map, length, refl, ap, ◌∙◌, arith}
+use Rattle.std.proofs.Common.{◌≡◌, ℕ, ◌+◌, ◌-◌, ◌/◌, ◌%◌, ◌<◌, not, map, length, refl, ap, ◌∙◌, arith}
 use Rattle.words.specs.Words.{bits, value, shifted}
 use Rattle.words.proofs.Bits.{value_low, value_not, value_bits_16}
 

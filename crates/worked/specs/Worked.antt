@@ -1,9 +1,9 @@
 -- Worked runs: a text, the program that it is the writing of, the words that it puts out, and how it ends; and one run of
 -- instructions.
 use Rattle.std.specs.Prelude.{◌≡◌, List, [], ◌∷◌, ℕ, codes, T}
-use Rattle.words.specs.Runs.{Seen, ended_done, ended_index}
+use Rattle.words.specs.Runs.{ended_done, ended_index}
 use Rattle.machine.specs.Machine.{machine_run}
-use Rattle.language.specs.Language.{Expr, num, loc, cell, add, sub, less, call, Stmt, skip, then, setloc, setcell, if, out, take, Proc, Program, program_run}
+use Rattle.language.specs.Language.{num, loc, cell, add, sub, less, call, skip, then, setloc, setcell, if, out, take, Program, program_run}
 use Rattle.text.specs.Text.{Reads, fits}
 
 -- with the tape, some fuel lets the program come to its end: these words shown, this tape left, this ending

@@ -1,4 +1,4 @@
-use Rattle.std.proofs.Common.{◌≡◌, [], sym, refl, ap, ◌∙◌, arith}
+use Rattle.std.proofs.Common.{[], refl, arith}
 use Rattle.codegen.proofs.Limits.{within_limits}
 use Rattle.compiler.specs.declared.Made.TheVariants as M
 use Rattle.compiler.proofs.Builds.{built, image_made, no_program, limits}

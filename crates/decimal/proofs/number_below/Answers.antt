@@ -1,6 +1,6 @@
 -- A turn reads one digit; a byte that is no digit, or a number that passes the bound, ends the loop.
 use Rattle.std.proofs.Common.{refl, arith, rules}
-use Rattle.decimal.proofs.Digits.{Left, left_more, left_below, left_above, left_large, left_all}
+use Rattle.decimal.proofs.Digits.{left_more, left_below, left_above, left_large, left_all}
 use Rattle.decimal.proofs.number_below.Goals as goal
 use Rattle.decimal.proofs.number_below.Goals.{then-c-lt48-via-then-c-lt48, then-c-lt48-via-else-c-lt48+then-c-gt57}
 

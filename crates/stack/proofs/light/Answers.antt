@@ -1,9 +1,7 @@
 -- The bytes that power on has laid are the board at power on, and spin is the board.
-use Rattle.std.proofs.Common.{◌≡◌, ℕ, ◌<◌, length, sym, ap, ◌∙◌, subst}
-use Rattle.words.specs.Runs.{Seen}
+use Rattle.std.proofs.Common.{◌<◌, length, ap, ◌∙◌, subst}
 use Rattle.circuit.specs.Circuit.{Board, ticks, seen_board}
 use Rattle.circuit.specs.Sheet.{drawn}
-use Rattle.board.specs.Board.{Left}
 use Rattle.stack.proofs.Lighting.{stands_seen}
 use Rattle.stack.proofs.light.Goals as goal
 

@@ -1,7 +1,5 @@
-use Rattle.std.proofs.Common.{◌≡◌, ℕ, suc, ◌+◌, ◌-◌, ◌<◌, List, [], ◌∷◌, ◌++◌, length, sym, refl, ap, ◌∙◌, arith}
+use Rattle.std.proofs.Common.{◌≡◌, ℕ, suc, ◌+◌, ◌-◌, ◌++◌, ap, ◌∙◌, arith}
 use Rattle.codegen.specs.Codegen.{clear_words}
-use Rattle.codegen.specs.Instructions.{Instruction, STORE, past}
-use Rattle.codegen.specs.Layout.{spare, work}
 use Rattle.codegen.proofs.Sizes.{length_clear}
 use Rattle.compiler.specs.Writing.{put_all}
 use Rattle.compiler.proofs.Writings.{past_length}

@@ -1,4 +1,4 @@
-use Rattle.std.proofs.Common.{◌≡◌, ℕ, ◌+◌, ◌<◌, List, [], ◌++◌, map, length, drop, sym, refl, ap, ◌∙◌, arith}
+use Rattle.std.proofs.Common.{◌≡◌, ℕ, List, ◌++◌, map, length, drop, ap, ◌∙◌, arith}
 use lib.ListN.{length-map}
 use lib.Seq.{drop-length}
 use Rattle.compiler.specs.Writing.{meaning, put_all}

@@ -1,4 +1,4 @@
-use Rattle.std.proofs.Common.{◌≡◌, ℕ, ◌≤◌, List, length, sym, ap, ◌∙◌, arith}
+use Rattle.std.proofs.Common.{◌≡◌, ◌≤◌, length, sym, ap, ◌∙◌, arith}
 use Rattle.codegen.specs.Codegen.{first_proc}
 use Rattle.codegen.proofs.Limits.{within_limits}
 use Rattle.text.specs.Signs.{put_from}

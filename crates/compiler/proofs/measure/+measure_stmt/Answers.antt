@@ -1,9 +1,8 @@
-use Rattle.std.proofs.Common.{◌≡◌, ℕ, ◌+◌, ◌-◌, ◌<◌, ◌≤◌, sym, refl, ap, ◌∙◌, subst, arith}
+use Rattle.std.proofs.Common.{◌≡◌, ℕ, ◌+◌, sym, ap, ◌∙◌, subst, arith}
 use Rattle.language.specs.Nodes.{node_at}
-use Rattle.codegen.specs.Codegen.{go_to, end_of_expr, end_of_stmt, else_place, then_place, loop_place}
-use Rattle.codegen.specs.Instructions.{past}
+use Rattle.codegen.specs.Codegen.{end_of_stmt, else_place, then_place, loop_place}
 use Rattle.codegen.proofs.Sizes.{size_stmt}
-use Rattle.compiler.specs.Work.{Works, StmtWorks}
+use Rattle.compiler.specs.Work.{StmtWorks}
 use Rattle.compiler.specs.Sizes.{go_words, go_unless_words, loop_words}
 use Rattle.compiler.proofs.Works.{expr_measured}
 use Rattle.compiler.proofs.Stmts.{simple, simple_works, then_work, if_work, while_work}

@@ -1,11 +1,11 @@
-use Rattle.std.proofs.Common.{◌≡◌, ℕ, ◌+◌, ◌-◌, ◌<◌, ◌≤◌, sym, refl, ap, ◌∙◌, subst, arith}
+use Rattle.std.proofs.Common.{◌≡◌, ℕ, ◌+◌, subst, arith}
 use Rattle.language.specs.Nodes.{node_at}
 use Rattle.codegen.specs.Codegen.{push, end_of_expr}
 use Rattle.codegen.specs.Instructions.{past}
 use Rattle.compiler.specs.Work.{Works}
 use Rattle.compiler.specs.Sizes.{push_words}
 use Rattle.compiler.proofs.Works.{expr_measured}
-use Rattle.compiler.proofs.Parted.{OneWork, one_work, measures_one, TwoWork, two_work, measures_two, second_measured, height_below, past_last_more}
+use Rattle.compiler.proofs.Parted.{one_work, measures_one, two_work, measures_two, second_measured, height_below, past_last_more}
 use Rattle.compiler.proofs.measure.+measure_work.Goals as goal
 
 pub measure_work-x-requires : goal.measure_work-x-requires

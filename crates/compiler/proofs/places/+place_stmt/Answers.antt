@@ -1,7 +1,5 @@
-use Rattle.std.proofs.Common.{◌≡◌, ℕ, ◌+◌, ◌-◌, ◌<◌, ◌≤◌, sym, subst, arith}
+use Rattle.std.proofs.Common.{ℕ, sym, subst, arith}
 use Rattle.language.specs.Nodes.{node_at}
-use Rattle.codegen.specs.Codegen.{else_place, then_place, loop_place}
-use Rattle.codegen.proofs.Sizes.{size_stmt}
 use Rattle.compiler.specs.Work.{StmtWorks}
 use Rattle.compiler.proofs.Stmts.{simple, simple_works, then_work, if_work, while_work}
 use Rattle.compiler.proofs.Noted.{else_is, then_is, loop_is, noted_simple, noted_then, noted_if, noted_while}

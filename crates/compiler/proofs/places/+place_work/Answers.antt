@@ -1,5 +1,4 @@
-use Rattle.std.proofs.Common.{◌≡◌, ℕ, ◌+◌, ◌-◌, ◌<◌, ◌≤◌, sym, refl, ap, ◌∙◌, subst, arith}
-use Rattle.language.specs.Nodes.{node_at}
+use Rattle.std.proofs.Common.{◌≡◌, ℕ, ◌+◌, subst, arith}
 use Rattle.codegen.specs.Codegen.{push, end_of_expr}
 use Rattle.codegen.specs.Instructions.{past}
 use Rattle.compiler.specs.Work.{Works}

@@ -1,6 +1,6 @@
-use Rattle.std.proofs.Common.{◌≡◌, ℕ, suc, ◌+◌, ◌<◌, List, [], length, drop, sym, refl, ap, ◌∙◌, arith, rules}
+use Rattle.std.proofs.Common.{◌≡◌, ℕ, suc, ◌+◌, List, [], length, drop, sym, refl, ap, ◌∙◌, arith, rules}
 use lib.Seq.{drop-length}
-use Rattle.language.specs.Language.{Proc, Program}
+use Rattle.language.specs.Language.{Proc}
 use Rattle.codegen.specs.Codegen.{entry, first_proc}
 use Rattle.text.specs.Signs.{put_from}
 use Rattle.signs.specs.Places.{places_procs}

@@ -1,4 +1,4 @@
-use Rattle.std.proofs.Common.{◌≡◌, ℕ, List, length, sym, refl, ap, ◌∙◌, arith}
+use Rattle.std.proofs.Common.{ℕ, List, length, ap, ◌∙◌}
 use Rattle.codegen.specs.Codegen.{code}
 use Rattle.compiler.specs.Writing.{put_all}
 use Rattle.compiler.proofs.Whole.{is_image}

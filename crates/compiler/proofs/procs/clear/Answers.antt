@@ -1,4 +1,4 @@
-use Rattle.std.proofs.Common.{◌≡◌, ℕ, ◌<◌, List, ◌++◌, length, drop, set, replicate, sym, refl, ap, ◌∙◌, append-nil, arith}
+use Rattle.std.proofs.Common.{◌≡◌, ℕ, List, ◌++◌, length, drop, set, replicate, ap, ◌∙◌, append-nil, arith}
 use lib.Seq.{drop-length}
 use Rattle.std.proofs.lemmas.List.Edits.{fill_more}
 use Rattle.compiler.proofs.procs.clear.Goals as goal

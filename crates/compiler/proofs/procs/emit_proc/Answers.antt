@@ -1,7 +1,6 @@
 use Rattle.std.proofs.Common.{◌≡◌, ℕ, ◌+◌, sym, refl, ap, ◌∙◌, subst, arith}
-use Rattle.language.specs.Language.{Proc, stmt_height}
-use Rattle.codegen.specs.Codegen.{clear_words, end_of_stmt, body_place}
-use Rattle.codegen.proofs.Sizes.{past_is, length_clear, size_stmt}
+use Rattle.codegen.specs.Codegen.{clear_words, end_of_stmt}
+use Rattle.codegen.proofs.Sizes.{past_is, length_clear}
 use Rattle.compiler.specs.Work.{StmtWorks}
 use Rattle.compiler.specs.Sizes.{return_words, head_words}
 use Rattle.compiler.proofs.Procedures.{proc_facts, ends_proc, emits_proc}

@@ -1,6 +1,6 @@
-use Rattle.std.proofs.Common.{◌≡◌, ℕ, suc, ◌+◌, ◌<◌, List, [], length, drop, sym, refl, ap, ◌∙◌, subst, arith}
+use Rattle.std.proofs.Common.{◌≡◌, ℕ, suc, ◌+◌, List, [], length, drop, sym, refl, ap, ◌∙◌, arith}
 use lib.Seq.{drop-length}
-use Rattle.language.specs.Language.{Proc, Program}
+use Rattle.language.specs.Language.{Proc}
 use Rattle.codegen.specs.Codegen.{entry, first_proc, code_procs}
 use Rattle.compiler.specs.Writing.{put_all}
 use Rattle.compiler.specs.Work.{Target}

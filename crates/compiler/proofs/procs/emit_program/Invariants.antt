@@ -1,4 +1,4 @@
-use Rattle.std.proofs.Common.{◌≡◌, length, drop}
+use Rattle.std.proofs.Common.{◌≡◌, drop}
 use Rattle.language.specs.Language.{Program}
 use Rattle.codegen.specs.Codegen.{entry, code_procs}
 use Rattle.compiler.specs.Procs.{ProgramHeld}

@@ -1,6 +1,5 @@
-use Rattle.std.proofs.Common.{◌≡◌, ℕ, ◌+◌, sym, refl, ap, ◌∙◌, arith}
-use Rattle.language.specs.Language.{Proc}
-use Rattle.codegen.specs.Codegen.{end_of_stmt, body_place}
+use Rattle.std.proofs.Common.{refl, ap, ◌∙◌, arith}
+use Rattle.codegen.specs.Codegen.{end_of_stmt}
 use Rattle.compiler.proofs.Procedures.{proc_facts, ends_proc}
 use Rattle.compiler.proofs.procs.measure_proc.Goals as goal
 

@@ -1,4 +1,4 @@
-use Rattle.std.proofs.Common.{◌≡◌, sym, refl, ap, ◌∙◌, subst, arith}
+use Rattle.std.proofs.Common.{sym, ◌∙◌, arith}
 use Rattle.codegen.specs.Codegen.{first_proc}
 use Rattle.compiler.proofs.Placed.{next_proc, place_stays}
 use Rattle.compiler.proofs.procs.next_place.Goals as goal

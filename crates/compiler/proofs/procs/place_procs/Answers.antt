@@ -1,4 +1,4 @@
-use Rattle.std.proofs.Common.{◌≡◌, ℕ, suc, ◌+◌, ◌<◌, ◌≢◌, length, set, sym, refl, ap, ◌∙◌, subst, arith, get_or-set_other, get_or-set_same, rules, below_more}
+use Rattle.std.proofs.Common.{◌≡◌, ℕ, suc, ◌+◌, ◌<◌, ◌≢◌, length, set, sym, ap, ◌∙◌, arith, get_or-set_other, get_or-set_same, rules, below_more}
 use Rattle.std.proofs.lemmas.List.{length-set}
 use Rattle.words.specs.Words.{word}
 use Rattle.codegen.specs.Codegen.{entry, first_proc}

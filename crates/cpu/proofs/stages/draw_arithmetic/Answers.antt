@@ -1,4 +1,4 @@
-use Rattle.std.proofs.Common.{◌≡◌, ℕ, ◌-◌, List, [], ◌∷◌, ◌++◌, length, refl, ap, ap₂}
+use Rattle.std.proofs.Common.{◌≡◌, ℕ, ◌-◌, List, ◌++◌, length, refl, ap, ap₂}
 use borrow.Rule.Slice.PartMut.{put_mid}
 use Rattle.circuit.specs.Parts.{nand_gates, mux_gates, invert_if_gates, zero_gates}
 use Rattle.circuit.specs.PartsAdder.{adder_gates}

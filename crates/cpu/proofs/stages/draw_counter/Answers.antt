@@ -1,4 +1,4 @@
-use Rattle.std.proofs.Common.{◌≡◌, ℕ, ◌-◌, List, [], ◌∷◌, ◌++◌, length, refl, ap, ap₂}
+use Rattle.std.proofs.Common.{◌≡◌, ℕ, ◌-◌, List, ◌++◌, length, refl, ap₂}
 use borrow.Rule.Slice.PartMut.{put_mid}
 use Rattle.circuit.specs.Parts.{mux_gates}
 use Rattle.cpu.specs.Signals.{PROGRAM_COUNTER, OPERAND, PHASE_2, jump_start, counter_start, address_start}
@@ -6,7 +6,7 @@ use Rattle.cpu.specs.Control.{JUMP, NOT_JUMP, NOT_PHASE_2}
 use Rattle.cpu.specs.Stages.{SUM, STAY_OR_JUMP, TO_SUM, NOT_TO_SUM, branch_stage}
 use Rattle.cpu.specs.Ink.{ink, Drew}
 use Rattle.cpu.proofs.Drawing.{drawing}
-use Rattle.cpu.proofs.Inking.{drew_by, drew_then}
+use Rattle.cpu.proofs.Inking.{drew_then}
 use Rattle.cpu.proofs.stages.draw_counter.Goals as goal
 
 pub returns : goal.returns

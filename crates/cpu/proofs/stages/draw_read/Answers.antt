@@ -1,11 +1,11 @@
-use Rattle.std.proofs.Common.{◌≡◌, ℕ, ◌-◌, List, [], ◌∷◌, ◌++◌, length, refl, ap, ap₂}
+use Rattle.std.proofs.Common.{◌≡◌, ℕ, ◌-◌, List, [], ◌∷◌, ◌++◌, length, refl, ap}
 use borrow.Rule.Slice.PartMut.{put_mid}
 use Rattle.circuit.specs.PartsRegisters.{level_gates, level_results}
 use Rattle.cpu.specs.Signals.{REGISTERS, read_start}
 use Rattle.cpu.specs.Stages.{late_index_stage, index_stage, select_stage}
 use Rattle.cpu.specs.Ink.{ink, Drew}
 use Rattle.cpu.proofs.Drawing.{drawing}
-use Rattle.cpu.proofs.Inking.{drew_by, drew_then}
+use Rattle.cpu.proofs.Inking.{drew_then}
 use Rattle.cpu.proofs.stages.draw_read.Goals as goal
 
 pub returns : goal.returns

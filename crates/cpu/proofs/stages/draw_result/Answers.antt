@@ -1,4 +1,4 @@
-use Rattle.std.proofs.Common.{◌≡◌, ℕ, ◌-◌, List, [], ◌∷◌, ◌++◌, length, refl, ap, ap₂}
+use Rattle.std.proofs.Common.{◌≡◌, ℕ, ◌-◌, List, ◌++◌, length, refl, ap, ap₂}
 use borrow.Rule.Slice.PartMut.{put_mid}
 use Rattle.circuit.specs.Parts.{mux_gates}
 use Rattle.cpu.specs.Signals.{TAPE, PROGRAM_COUNTER, OP_0, OP_1, OP_2, OP_3, nand_or_less_start, below_4_start, from_4_start, below_8_start, from_8_start, result_start}

@@ -1,4 +1,4 @@
-use Rattle.std.proofs.Common.{◌≡◌, ℕ, ◌-◌, List, [], ◌∷◌, ◌++◌, length, refl, ap, ap₂}
+use Rattle.std.proofs.Common.{◌≡◌, ℕ, ◌-◌, List, [], ◌∷◌, ◌++◌, length, refl, ap₂}
 use borrow.Rule.Slice.PartMut.{put_mid}
 use Rattle.circuit.specs.Parts.{mux_gates}
 use Rattle.circuit.specs.PartsRegisters.{split_gates, split_results, decoder, keep_gates}

@@ -1,5 +1,5 @@
 -- Without room nothing changes; with room the word stands behind those put out before.
-use Rattle.std.proofs.Common.{◌≡◌, ◌+◌, ◌<◌, [], ◌∷◌, ◌++◌, length, get_or, take, drop, set, refl, ap, ◌∙◌, arith}
+use Rattle.std.proofs.Common.{◌≡◌, ◌+◌, length, get_or, take, refl, ap, arith}
 use Rattle.std.proofs.lemmas.List.{length_push, take_all, take_more_set, drop-set-lt}
 use Rattle.words.specs.Runs.{running}
 use Rattle.machine.specs.Processor.{ending_of}

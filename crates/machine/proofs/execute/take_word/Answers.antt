@@ -1,5 +1,5 @@
 -- While the tape has words, the next one and one more taken; at its end 0, and nothing is taken.
-use Rattle.std.proofs.Common.{◌≡◌, ℕ, ◌+◌, List, [], get_or, drop, sym, ap, ◌∙◌, arith}
+use Rattle.std.proofs.Common.{◌≡◌, ℕ, ◌+◌, get_or, drop, sym, ap, ◌∙◌, arith}
 use Rattle.std.proofs.lemmas.List.{drop_all}
 use Rattle.words.specs.Words.{front, rest}
 use Rattle.words.proofs.Lists.{front_drop, rest_drop}
