@@ -1,7 +1,7 @@
 -- The writing of a program, read word by word, is read to its end, and the reader then says whether the program is within
 -- the limits. First readers with something owed, then the writing of an expression, a statement, procedures, a program.
 use Rattle.std.proofs.Common.{◌≡◌, ℕ, suc, ◌+◌, Bool, true, false, ◌&&◌, T, ltb, leb, List, [], ◌∷◌, ◌++◌, length, Some, sym, refl, ap, ◌∙◌, append_assoc, arith}
-use mathlib.Core.Bool.{and_true, and_assoc}
+use mathlib.Core.Bool.{and-true, and_assoc}
 use Rattle.words.proofs.Tests.{TLeft, TRight}
 use Rattle.language.specs.Language.{Expr, num, loc, glob, cell, add, sub, nand, less, half, call, Stmt, skip, then, setloc, setglob, setcell, if, while, out, take, Proc, Program}
 use Rattle.text.specs.declared.reader.Use.{Use}
@@ -99,7 +99,7 @@ two_stmts s t rs rt m p c b a ws h =
 
 read_stmt : (s : Stmt) → ReadsStmt s
 unfolding kind
-read_stmt skip m p c b a ws h = same ws 0 m p a _ _ _ _ refl (sym (and_true b))
+read_stmt skip m p c b a ws h = same ws 0 m p a _ _ _ _ refl (sym (and-true b))
 read_stmt (then s t) m p c b a ws h = two_stmts s t (read_stmt s) (read_stmt t) m p (c + 1) b a ws h ∙ same ws 0 m p a _ _ _ _ (omega arith) refl
 read_stmt (setloc i e) m p c b a ws h = number_expr Local (λ j. ltb j a.locals) i e (read_expr e) 0 m p c b a ws refl h
 read_stmt (setglob i e) m p c b a ws h = number_expr Global (λ j. ltb j a.globals) i e (read_expr e) 0 m p c b a ws refl h
@@ -125,7 +125,7 @@ last_locals l (q ∷ qs) = last_locals (1 + q.locals) qs
 read_procs : (qs : List Proc) (c : ℕ) (b : Bool) (a : Reader) → T (writable_procs qs) →
     run (write_procs qs) (owing 0 0 (length qs) c b a) ≡ Some (owing 0 0 0 (c + signs qs) (b && fits_procs a.globals a.count qs) (with_locals (last_locals a.locals qs) a))
 unfolding kind
-read_procs [] c b a h = same [] 0 0 0 a _ _ _ _ (omega arith) (sym (and_true b))
+read_procs [] c b a h = same [] 0 0 0 a _ _ _ _ (omega arith) (sym (and-true b))
 read_procs (q ∷ qs) c b a h =
     let w0 = writable q.locals in let w1 = writable_stmt q.body in let w2 = writable_procs qs in
     let h1 : T (w1 && w2) = TRight w0 (w1 && w2) h in

@@ -17,14 +17,14 @@ pub emit_stmt-p-requires : goal.emit_stmt-p-requires
 emit_stmt-p-requires t c =
     let nodes = c.args.nodes.now in
     let w = then_work nodes c.args.i c.in-Then.a c.in-Then.b c.args.at c.in-Then.is c.requires.works in
-    (omega (arith, w.first-later, w.inside), (w.first-works, c.requires.whole))
+    (omega (arith, w.first_later, w.inside), (w.first_works, c.requires.whole))
 
 pub emit_stmt-requires : goal.emit_stmt-requires
 emit_stmt-requires t c =
     let nodes = c.args.nodes.now in
     let w = then_work nodes c.args.i c.in-Then.a c.in-Then.b c.args.at c.in-Then.is c.requires.works in
-    let end = c.emit_stmt-p.ensures.ends w.first w.first-at in
-    (omega (arith, w.second-later, w.inside), (subst (λ (p : ℕ). StmtWorks nodes c.in-Then.b p) (sym end) w.second-works, omega (arith, c.requires.whole)))
+    let end = c.emit_stmt-p.ensures.ends w.first w.first_at in
+    (omega (arith, w.second_later, w.inside), (subst (λ (p : ℕ). StmtWorks nodes c.in-Then.b p) (sym end) w.second_works, omega (arith, c.requires.whole)))
 
 pub returns-in-Then : goal.returns-in-Then
 returns-in-Then t c =
@@ -38,61 +38,61 @@ pub emit_work-p-requires : goal.emit_work-p-requires
 emit_work-p-requires t c =
     let nodes = c.args.nodes.now in let at = c.args.at in
     let w = if_work nodes c.args.i c.in-If.test c.in-If.first c.in-If.second at c.in-If.is c.requires.works in
-    record { works = w.test-works; whole = c.requires.whole }
+    record { works = w.test_works; whole = c.requires.whole }
 
 pub overflow_add-p : goal.overflow_add-p
 overflow_add-p t c =
     let nodes = c.args.nodes.now in let at = c.args.at in
     let w = if_work nodes c.args.i c.in-If.test c.in-If.first c.in-If.second at c.in-If.is c.requires.works in
-    let test-end = expr_ended nodes c.in-If.test w.test at c.emit_work-p.result w.test-at c.emit_work-p.ensures.ends in
+    let test-end = expr_ended nodes c.in-If.test w.test at c.emit_work-p.result w.test_at c.emit_work-p.ensures.ends in
     let else_is : c.emit_work-p.result + go_unless_words ≡ else_place w.test at = omega arith in
-    let else_room = w.else-room in
+    let else_room = w.else_room in
     omega arith
 
 pub measure_stmt-over-requires : goal.measure_stmt-over-requires
 measure_stmt-over-requires t c =
     let nodes = c.args.nodes.now in let at = c.args.at in
     let w = if_work nodes c.args.i c.in-If.test c.in-If.first c.in-If.second at c.in-If.is c.requires.works in
-    let test-end = expr_ended nodes c.in-If.test w.test at c.emit_work-p.result w.test-at c.emit_work-p.ensures.ends in
+    let test-end = expr_ended nodes c.in-If.test w.test at c.emit_work-p.result w.test_at c.emit_work-p.ensures.ends in
     let else_is : c.emit_work-p.result + go_unless_words ≡ else_place w.test at = omega arith in
-    let else_room = w.else-room in
-    subst (λ (p : ℕ). StmtWorks nodes c.in-If.second p) (sym else_is) w.second-works
+    let else_room = w.else_room in
+    subst (λ (p : ℕ). StmtWorks nodes c.in-If.second p) (sym else_is) w.second_works
 
 pub overflow_add-first_place : goal.overflow_add-first_place
 overflow_add-first_place t c =
     let nodes = c.args.nodes.now in let at = c.args.at in
     let w = if_work nodes c.args.i c.in-If.test c.in-If.first c.in-If.second at c.in-If.is c.requires.works in
-    let test-end = expr_ended nodes c.in-If.test w.test at c.emit_work-p.result w.test-at c.emit_work-p.ensures.ends in
+    let test-end = expr_ended nodes c.in-If.test w.test at c.emit_work-p.result w.test_at c.emit_work-p.ensures.ends in
     let else_is : c.emit_work-p.result + go_unless_words ≡ else_place w.test at = omega arith in
-    let else_room = w.else-room in
-    let over-end = (c.measure_stmt-over.ensures w.second w.second-at).0 ∙ ap (end_of_stmt w.second) else_is in
+    let else_room = w.else_room in
+    let over-end = (c.measure_stmt-over.ensures w.second w.second_at).0 ∙ ap (end_of_stmt w.second) else_is in
     let then_is : c.measure_stmt-over.result.end + go_words ≡ then_place w.test w.second at = omega arith in
-    let then-room = w.second-room in
+    let then-room = w.second_room in
     omega arith
 
 pub measure_stmt-whole-requires : goal.measure_stmt-whole-requires
 measure_stmt-whole-requires t c =
     let nodes = c.args.nodes.now in let at = c.args.at in
     let w = if_work nodes c.args.i c.in-If.test c.in-If.first c.in-If.second at c.in-If.is c.requires.works in
-    let test-end = expr_ended nodes c.in-If.test w.test at c.emit_work-p.result w.test-at c.emit_work-p.ensures.ends in
+    let test-end = expr_ended nodes c.in-If.test w.test at c.emit_work-p.result w.test_at c.emit_work-p.ensures.ends in
     let else_is : c.emit_work-p.result + go_unless_words ≡ else_place w.test at = omega arith in
-    let else_room = w.else-room in
-    let over-end = (c.measure_stmt-over.ensures w.second w.second-at).0 ∙ ap (end_of_stmt w.second) else_is in
+    let else_room = w.else_room in
+    let over-end = (c.measure_stmt-over.ensures w.second w.second_at).0 ∙ ap (end_of_stmt w.second) else_is in
     let then_is : c.measure_stmt-over.result.end + go_words ≡ then_place w.test w.second at = omega arith in
-    let then-room = w.second-room in
-    subst (λ (p : ℕ). StmtWorks nodes c.in-If.first p) (sym then_is) w.first-works
+    let then-room = w.second_room in
+    subst (λ (p : ℕ). StmtWorks nodes c.in-If.first p) (sym then_is) w.first_works
 
 pub overflow_cast-first_place : goal.overflow_cast-first_place
 overflow_cast-first_place t c =
     let nodes = c.args.nodes.now in let at = c.args.at in
     let w = if_work nodes c.args.i c.in-If.test c.in-If.first c.in-If.second at c.in-If.is c.requires.works in
-    let test-end = expr_ended nodes c.in-If.test w.test at c.emit_work-p.result w.test-at c.emit_work-p.ensures.ends in
+    let test-end = expr_ended nodes c.in-If.test w.test at c.emit_work-p.result w.test_at c.emit_work-p.ensures.ends in
     let else_is : c.emit_work-p.result + go_unless_words ≡ else_place w.test at = omega arith in
-    let else_room = w.else-room in
-    let over-end = (c.measure_stmt-over.ensures w.second w.second-at).0 ∙ ap (end_of_stmt w.second) else_is in
+    let else_room = w.else_room in
+    let over-end = (c.measure_stmt-over.ensures w.second w.second_at).0 ∙ ap (end_of_stmt w.second) else_is in
     let then_is : c.measure_stmt-over.result.end + go_words ≡ then_place w.test w.second at = omega arith in
-    let then-room = w.second-room in
-    let whole-end = (c.measure_stmt-whole.ensures w.first w.first-at).0 ∙ ap (end_of_stmt w.first) then_is in
+    let then-room = w.second_room in
+    let whole-end = (c.measure_stmt-whole.ensures w.first w.first_at).0 ∙ ap (end_of_stmt w.first) then_is in
     let room = w.room in
     omega arith
 
@@ -100,13 +100,13 @@ pub go_unless_zero-q-requires : goal.go_unless_zero-q-requires
 go_unless_zero-q-requires t c =
     let nodes = c.args.nodes.now in let at = c.args.at in
     let w = if_work nodes c.args.i c.in-If.test c.in-If.first c.in-If.second at c.in-If.is c.requires.works in
-    let test-end = expr_ended nodes c.in-If.test w.test at c.emit_work-p.result w.test-at c.emit_work-p.ensures.ends in
+    let test-end = expr_ended nodes c.in-If.test w.test at c.emit_work-p.result w.test_at c.emit_work-p.ensures.ends in
     let else_is : c.emit_work-p.result + go_unless_words ≡ else_place w.test at = omega arith in
-    let else_room = w.else-room in
-    let over-end = (c.measure_stmt-over.ensures w.second w.second-at).0 ∙ ap (end_of_stmt w.second) else_is in
+    let else_room = w.else_room in
+    let over-end = (c.measure_stmt-over.ensures w.second w.second_at).0 ∙ ap (end_of_stmt w.second) else_is in
     let then_is : c.measure_stmt-over.result.end + go_words ≡ then_place w.test w.second at = omega arith in
-    let then-room = w.second-room in
-    let whole-end = (c.measure_stmt-whole.ensures w.first w.first-at).0 ∙ ap (end_of_stmt w.first) then_is in
+    let then-room = w.second_room in
+    let whole-end = (c.measure_stmt-whole.ensures w.first w.first_at).0 ∙ ap (end_of_stmt w.first) then_is in
     let room = w.room in
     omega (arith, c.requires.whole)
 
@@ -114,86 +114,86 @@ pub emit_stmt-r-requires : goal.emit_stmt-r-requires
 emit_stmt-r-requires t c =
     let nodes = c.args.nodes.now in let at = c.args.at in
     let w = if_work nodes c.args.i c.in-If.test c.in-If.first c.in-If.second at c.in-If.is c.requires.works in
-    let test-end = expr_ended nodes c.in-If.test w.test at c.emit_work-p.result w.test-at c.emit_work-p.ensures.ends in
+    let test-end = expr_ended nodes c.in-If.test w.test at c.emit_work-p.result w.test_at c.emit_work-p.ensures.ends in
     let else_is : c.emit_work-p.result + go_unless_words ≡ else_place w.test at = omega arith in
-    let else_room = w.else-room in
-    let over-end = (c.measure_stmt-over.ensures w.second w.second-at).0 ∙ ap (end_of_stmt w.second) else_is in
+    let else_room = w.else_room in
+    let over-end = (c.measure_stmt-over.ensures w.second w.second_at).0 ∙ ap (end_of_stmt w.second) else_is in
     let then_is : c.measure_stmt-over.result.end + go_words ≡ then_place w.test w.second at = omega arith in
-    let then-room = w.second-room in
-    let whole-end = (c.measure_stmt-whole.ensures w.first w.first-at).0 ∙ ap (end_of_stmt w.first) then_is in
+    let then-room = w.second_room in
+    let whole-end = (c.measure_stmt-whole.ensures w.first w.first_at).0 ∙ ap (end_of_stmt w.first) then_is in
     let room = w.room in
     let way = c.go_unless_zero-q.ensures.ends in
     let q-is : c.go_unless_zero-q.result ≡ else_place w.test at = omega arith in
-    (omega (arith, w.second-later, w.inside), (subst (λ (p : ℕ). StmtWorks nodes c.in-If.second p) (sym q-is) w.second-works, omega (arith, c.requires.whole)))
+    (omega (arith, w.second_later, w.inside), (subst (λ (p : ℕ). StmtWorks nodes c.in-If.second p) (sym q-is) w.second_works, omega (arith, c.requires.whole)))
 
 pub overflow_cast-whole : goal.overflow_cast-whole
 overflow_cast-whole t c =
     let nodes = c.args.nodes.now in let at = c.args.at in
     let w = if_work nodes c.args.i c.in-If.test c.in-If.first c.in-If.second at c.in-If.is c.requires.works in
-    let test-end = expr_ended nodes c.in-If.test w.test at c.emit_work-p.result w.test-at c.emit_work-p.ensures.ends in
+    let test-end = expr_ended nodes c.in-If.test w.test at c.emit_work-p.result w.test_at c.emit_work-p.ensures.ends in
     let else_is : c.emit_work-p.result + go_unless_words ≡ else_place w.test at = omega arith in
-    let else_room = w.else-room in
-    let over-end = (c.measure_stmt-over.ensures w.second w.second-at).0 ∙ ap (end_of_stmt w.second) else_is in
+    let else_room = w.else_room in
+    let over-end = (c.measure_stmt-over.ensures w.second w.second_at).0 ∙ ap (end_of_stmt w.second) else_is in
     let then_is : c.measure_stmt-over.result.end + go_words ≡ then_place w.test w.second at = omega arith in
-    let then-room = w.second-room in
-    let whole-end = (c.measure_stmt-whole.ensures w.first w.first-at).0 ∙ ap (end_of_stmt w.first) then_is in
+    let then-room = w.second_room in
+    let whole-end = (c.measure_stmt-whole.ensures w.first w.first_at).0 ∙ ap (end_of_stmt w.first) then_is in
     let room = w.room in
     let way = c.go_unless_zero-q.ensures.ends in
     let q-is : c.go_unless_zero-q.result ≡ else_place w.test at = omega arith in
-    let second-end = c.emit_stmt-r.ensures.ends w.second w.second-at ∙ ap (end_of_stmt w.second) q-is in
+    let second-end = c.emit_stmt-r.ensures.ends w.second w.second_at ∙ ap (end_of_stmt w.second) q-is in
     omega arith
 
 pub go_to-s-requires : goal.go_to-s-requires
 go_to-s-requires t c =
     let nodes = c.args.nodes.now in let at = c.args.at in
     let w = if_work nodes c.args.i c.in-If.test c.in-If.first c.in-If.second at c.in-If.is c.requires.works in
-    let test-end = expr_ended nodes c.in-If.test w.test at c.emit_work-p.result w.test-at c.emit_work-p.ensures.ends in
+    let test-end = expr_ended nodes c.in-If.test w.test at c.emit_work-p.result w.test_at c.emit_work-p.ensures.ends in
     let else_is : c.emit_work-p.result + go_unless_words ≡ else_place w.test at = omega arith in
-    let else_room = w.else-room in
-    let over-end = (c.measure_stmt-over.ensures w.second w.second-at).0 ∙ ap (end_of_stmt w.second) else_is in
+    let else_room = w.else_room in
+    let over-end = (c.measure_stmt-over.ensures w.second w.second_at).0 ∙ ap (end_of_stmt w.second) else_is in
     let then_is : c.measure_stmt-over.result.end + go_words ≡ then_place w.test w.second at = omega arith in
-    let then-room = w.second-room in
-    let whole-end = (c.measure_stmt-whole.ensures w.first w.first-at).0 ∙ ap (end_of_stmt w.first) then_is in
+    let then-room = w.second_room in
+    let whole-end = (c.measure_stmt-whole.ensures w.first w.first_at).0 ∙ ap (end_of_stmt w.first) then_is in
     let room = w.room in
     let way = c.go_unless_zero-q.ensures.ends in
     let q-is : c.go_unless_zero-q.result ≡ else_place w.test at = omega arith in
-    let second-end = c.emit_stmt-r.ensures.ends w.second w.second-at ∙ ap (end_of_stmt w.second) q-is in
+    let second-end = c.emit_stmt-r.ensures.ends w.second w.second_at ∙ ap (end_of_stmt w.second) q-is in
     omega (arith, c.requires.whole)
 
 pub emit_stmt-requires-in-If : goal.emit_stmt-requires-in-If
 emit_stmt-requires-in-If t c =
     let nodes = c.args.nodes.now in let at = c.args.at in
     let w = if_work nodes c.args.i c.in-If.test c.in-If.first c.in-If.second at c.in-If.is c.requires.works in
-    let test-end = expr_ended nodes c.in-If.test w.test at c.emit_work-p.result w.test-at c.emit_work-p.ensures.ends in
+    let test-end = expr_ended nodes c.in-If.test w.test at c.emit_work-p.result w.test_at c.emit_work-p.ensures.ends in
     let else_is : c.emit_work-p.result + go_unless_words ≡ else_place w.test at = omega arith in
-    let else_room = w.else-room in
-    let over-end = (c.measure_stmt-over.ensures w.second w.second-at).0 ∙ ap (end_of_stmt w.second) else_is in
+    let else_room = w.else_room in
+    let over-end = (c.measure_stmt-over.ensures w.second w.second_at).0 ∙ ap (end_of_stmt w.second) else_is in
     let then_is : c.measure_stmt-over.result.end + go_words ≡ then_place w.test w.second at = omega arith in
-    let then-room = w.second-room in
-    let whole-end = (c.measure_stmt-whole.ensures w.first w.first-at).0 ∙ ap (end_of_stmt w.first) then_is in
+    let then-room = w.second_room in
+    let whole-end = (c.measure_stmt-whole.ensures w.first w.first_at).0 ∙ ap (end_of_stmt w.first) then_is in
     let room = w.room in
     let way = c.go_unless_zero-q.ensures.ends in
     let q-is : c.go_unless_zero-q.result ≡ else_place w.test at = omega arith in
-    let second-end = c.emit_stmt-r.ensures.ends w.second w.second-at ∙ ap (end_of_stmt w.second) q-is in
+    let second-end = c.emit_stmt-r.ensures.ends w.second w.second_at ∙ ap (end_of_stmt w.second) q-is in
     let on = c.go_to-s.ensures.ends in
     let s-is : c.go_to-s.result ≡ then_place w.test w.second at = omega arith in
-    (omega (arith, w.first-later, w.inside), (subst (λ (p : ℕ). StmtWorks nodes c.in-If.first p) (sym s-is) w.first-works, omega (arith, c.requires.whole)))
+    (omega (arith, w.first_later, w.inside), (subst (λ (p : ℕ). StmtWorks nodes c.in-If.first p) (sym s-is) w.first_works, omega (arith, c.requires.whole)))
 
 pub returns-in-If : goal.returns-in-If
 returns-in-If t c =
     let nodes = c.args.nodes.now in let at = c.args.at in
     let w = if_work nodes c.args.i c.in-If.test c.in-If.first c.in-If.second at c.in-If.is c.requires.works in
-    let test-end = expr_ended nodes c.in-If.test w.test at c.emit_work-p.result w.test-at c.emit_work-p.ensures.ends in
+    let test-end = expr_ended nodes c.in-If.test w.test at c.emit_work-p.result w.test_at c.emit_work-p.ensures.ends in
     let else_is : c.emit_work-p.result + go_unless_words ≡ else_place w.test at = omega arith in
-    let else_room = w.else-room in
-    let over-end = (c.measure_stmt-over.ensures w.second w.second-at).0 ∙ ap (end_of_stmt w.second) else_is in
+    let else_room = w.else_room in
+    let over-end = (c.measure_stmt-over.ensures w.second w.second_at).0 ∙ ap (end_of_stmt w.second) else_is in
     let then_is : c.measure_stmt-over.result.end + go_words ≡ then_place w.test w.second at = omega arith in
-    let then-room = w.second-room in
-    let whole-end = (c.measure_stmt-whole.ensures w.first w.first-at).0 ∙ ap (end_of_stmt w.first) then_is in
+    let then-room = w.second_room in
+    let whole-end = (c.measure_stmt-whole.ensures w.first w.first_at).0 ∙ ap (end_of_stmt w.first) then_is in
     let room = w.room in
     let way = c.go_unless_zero-q.ensures.ends in
     let q-is : c.go_unless_zero-q.result ≡ else_place w.test at = omega arith in
-    let second-end = c.emit_stmt-r.ensures.ends w.second w.second-at ∙ ap (end_of_stmt w.second) q-is in
+    let second-end = c.emit_stmt-r.ensures.ends w.second w.second_at ∙ ap (end_of_stmt w.second) q-is in
     let on = c.go_to-s.ensures.ends in
     let s-is : c.go_to-s.result ≡ then_place w.test w.second at = omega arith in
     let i = c.args.i in let cells = c.args.cells in let places = c.args.places.now in let m = c.args.image.now in
@@ -213,34 +213,34 @@ pub emit_work-p-requires-in-While : goal.emit_work-p-requires-in-While
 emit_work-p-requires-in-While t c =
     let nodes = c.args.nodes.now in let at = c.args.at in
     let w = while_work nodes c.args.i c.in-While.test c.in-While.body at c.in-While.is c.requires.works in
-    record { works = w.test-works; whole = c.requires.whole }
+    record { works = w.test_works; whole = c.requires.whole }
 
 pub overflow_add-body_place : goal.overflow_add-body_place
 overflow_add-body_place t c =
     let nodes = c.args.nodes.now in let at = c.args.at in
     let w = while_work nodes c.args.i c.in-While.test c.in-While.body at c.in-While.is c.requires.works in
-    let test-end = expr_ended nodes c.in-While.test w.test at c.emit_work-p-in-While.result w.test-at c.emit_work-p-in-While.ensures.ends in
+    let test-end = expr_ended nodes c.in-While.test w.test at c.emit_work-p-in-While.result w.test_at c.emit_work-p-in-While.ensures.ends in
     let body_is : c.emit_work-p-in-While.result + loop_words ≡ loop_place w.test at = omega arith in
-    let body_room = w.body-room in
+    let body_room = w.body_room in
     omega arith
 
 pub measure_stmt-over-requires-in-While : goal.measure_stmt-over-requires-in-While
 measure_stmt-over-requires-in-While t c =
     let nodes = c.args.nodes.now in let at = c.args.at in
     let w = while_work nodes c.args.i c.in-While.test c.in-While.body at c.in-While.is c.requires.works in
-    let test-end = expr_ended nodes c.in-While.test w.test at c.emit_work-p-in-While.result w.test-at c.emit_work-p-in-While.ensures.ends in
+    let test-end = expr_ended nodes c.in-While.test w.test at c.emit_work-p-in-While.result w.test_at c.emit_work-p-in-While.ensures.ends in
     let body_is : c.emit_work-p-in-While.result + loop_words ≡ loop_place w.test at = omega arith in
-    let body_room = w.body-room in
-    subst (λ (p : ℕ). StmtWorks nodes c.in-While.body p) (sym body_is) w.body-works
+    let body_room = w.body_room in
+    subst (λ (p : ℕ). StmtWorks nodes c.in-While.body p) (sym body_is) w.body_works
 
 pub overflow_add-end : goal.overflow_add-end
 overflow_add-end t c =
     let nodes = c.args.nodes.now in let at = c.args.at in
     let w = while_work nodes c.args.i c.in-While.test c.in-While.body at c.in-While.is c.requires.works in
-    let test-end = expr_ended nodes c.in-While.test w.test at c.emit_work-p-in-While.result w.test-at c.emit_work-p-in-While.ensures.ends in
+    let test-end = expr_ended nodes c.in-While.test w.test at c.emit_work-p-in-While.result w.test_at c.emit_work-p-in-While.ensures.ends in
     let body_is : c.emit_work-p-in-While.result + loop_words ≡ loop_place w.test at = omega arith in
-    let body_room = w.body-room in
-    let over-end = (c.measure_stmt-over-in-While.ensures w.body w.body-at).0 ∙ ap (end_of_stmt w.body) body_is in
+    let body_room = w.body_room in
+    let over-end = (c.measure_stmt-over-in-While.ensures w.body w.body_at).0 ∙ ap (end_of_stmt w.body) body_is in
     let room = w.room in
     omega arith
 
@@ -254,10 +254,10 @@ pub overflow_cast-ways-in-While : goal.overflow_cast-ways-in-While
 overflow_cast-ways-in-While t c =
     let nodes = c.args.nodes.now in let at = c.args.at in
     let w = while_work nodes c.args.i c.in-While.test c.in-While.body at c.in-While.is c.requires.works in
-    let test-end = expr_ended nodes c.in-While.test w.test at c.emit_work-p-in-While.result w.test-at c.emit_work-p-in-While.ensures.ends in
+    let test-end = expr_ended nodes c.in-While.test w.test at c.emit_work-p-in-While.result w.test_at c.emit_work-p-in-While.ensures.ends in
     let body_is : c.emit_work-p-in-While.result + loop_words ≡ loop_place w.test at = omega arith in
-    let body_room = w.body-room in
-    let over-end = (c.measure_stmt-over-in-While.ensures w.body w.body-at).0 ∙ ap (end_of_stmt w.body) body_is in
+    let body_room = w.body_room in
+    let over-end = (c.measure_stmt-over-in-While.ensures w.body w.body_at).0 ∙ ap (end_of_stmt w.body) body_is in
     let room = w.room in
     omega arith
 
@@ -265,10 +265,10 @@ pub overflow_cast-ways-in-While-2 : goal.overflow_cast-ways-in-While-2
 overflow_cast-ways-in-While-2 t c =
     let nodes = c.args.nodes.now in let at = c.args.at in
     let w = while_work nodes c.args.i c.in-While.test c.in-While.body at c.in-While.is c.requires.works in
-    let test-end = expr_ended nodes c.in-While.test w.test at c.emit_work-p-in-While.result w.test-at c.emit_work-p-in-While.ensures.ends in
+    let test-end = expr_ended nodes c.in-While.test w.test at c.emit_work-p-in-While.result w.test_at c.emit_work-p-in-While.ensures.ends in
     let body_is : c.emit_work-p-in-While.result + loop_words ≡ loop_place w.test at = omega arith in
-    let body_room = w.body-room in
-    let over-end = (c.measure_stmt-over-in-While.ensures w.body w.body-at).0 ∙ ap (end_of_stmt w.body) body_is in
+    let body_room = w.body_room in
+    let over-end = (c.measure_stmt-over-in-While.ensures w.body w.body_at).0 ∙ ap (end_of_stmt w.body) body_is in
     let room = w.room in
     omega arith
 
@@ -276,10 +276,10 @@ pub enter-q-requires : goal.enter-q-requires
 enter-q-requires t c =
     let nodes = c.args.nodes.now in let at = c.args.at in
     let w = while_work nodes c.args.i c.in-While.test c.in-While.body at c.in-While.is c.requires.works in
-    let test-end = expr_ended nodes c.in-While.test w.test at c.emit_work-p-in-While.result w.test-at c.emit_work-p-in-While.ensures.ends in
+    let test-end = expr_ended nodes c.in-While.test w.test at c.emit_work-p-in-While.result w.test_at c.emit_work-p-in-While.ensures.ends in
     let body_is : c.emit_work-p-in-While.result + loop_words ≡ loop_place w.test at = omega arith in
-    let body_room = w.body-room in
-    let over-end = (c.measure_stmt-over-in-While.ensures w.body w.body-at).0 ∙ ap (end_of_stmt w.body) body_is in
+    let body_room = w.body_room in
+    let over-end = (c.measure_stmt-over-in-While.ensures w.body w.body_at).0 ∙ ap (end_of_stmt w.body) body_is in
     let room = w.room in
     omega (arith, c.requires.whole)
 
@@ -287,10 +287,10 @@ pub leave-r-requires : goal.leave-r-requires
 leave-r-requires t c =
     let nodes = c.args.nodes.now in let at = c.args.at in
     let w = while_work nodes c.args.i c.in-While.test c.in-While.body at c.in-While.is c.requires.works in
-    let test-end = expr_ended nodes c.in-While.test w.test at c.emit_work-p-in-While.result w.test-at c.emit_work-p-in-While.ensures.ends in
+    let test-end = expr_ended nodes c.in-While.test w.test at c.emit_work-p-in-While.result w.test_at c.emit_work-p-in-While.ensures.ends in
     let body_is : c.emit_work-p-in-While.result + loop_words ≡ loop_place w.test at = omega arith in
-    let body_room = w.body-room in
-    let over-end = (c.measure_stmt-over-in-While.ensures w.body w.body-at).0 ∙ ap (end_of_stmt w.body) body_is in
+    let body_room = w.body_room in
+    let over-end = (c.measure_stmt-over-in-While.ensures w.body w.body_at).0 ∙ ap (end_of_stmt w.body) body_is in
     let room = w.room in
     let way = c.enter-q.ensures.ends in
     omega (arith, c.requires.whole)
@@ -299,44 +299,44 @@ pub emit_stmt-s-requires : goal.emit_stmt-s-requires
 emit_stmt-s-requires t c =
     let nodes = c.args.nodes.now in let at = c.args.at in
     let w = while_work nodes c.args.i c.in-While.test c.in-While.body at c.in-While.is c.requires.works in
-    let test-end = expr_ended nodes c.in-While.test w.test at c.emit_work-p-in-While.result w.test-at c.emit_work-p-in-While.ensures.ends in
+    let test-end = expr_ended nodes c.in-While.test w.test at c.emit_work-p-in-While.result w.test_at c.emit_work-p-in-While.ensures.ends in
     let body_is : c.emit_work-p-in-While.result + loop_words ≡ loop_place w.test at = omega arith in
-    let body_room = w.body-room in
-    let over-end = (c.measure_stmt-over-in-While.ensures w.body w.body-at).0 ∙ ap (end_of_stmt w.body) body_is in
+    let body_room = w.body_room in
+    let over-end = (c.measure_stmt-over-in-While.ensures w.body w.body_at).0 ∙ ap (end_of_stmt w.body) body_is in
     let room = w.room in
     let way = c.enter-q.ensures.ends in
     let out = c.leave-r.ensures.ends in
     let r-is : c.leave-r.result ≡ loop_place w.test at = omega arith in
-    (omega (arith, w.body-later, w.inside), (subst (λ (p : ℕ). StmtWorks nodes c.in-While.body p) (sym r-is) w.body-works, omega (arith, c.requires.whole)))
+    (omega (arith, w.body_later, w.inside), (subst (λ (p : ℕ). StmtWorks nodes c.in-While.body p) (sym r-is) w.body_works, omega (arith, c.requires.whole)))
 
 pub again-requires : goal.again-requires
 again-requires t c =
     let nodes = c.args.nodes.now in let at = c.args.at in
     let w = while_work nodes c.args.i c.in-While.test c.in-While.body at c.in-While.is c.requires.works in
-    let test-end = expr_ended nodes c.in-While.test w.test at c.emit_work-p-in-While.result w.test-at c.emit_work-p-in-While.ensures.ends in
+    let test-end = expr_ended nodes c.in-While.test w.test at c.emit_work-p-in-While.result w.test_at c.emit_work-p-in-While.ensures.ends in
     let body_is : c.emit_work-p-in-While.result + loop_words ≡ loop_place w.test at = omega arith in
-    let body_room = w.body-room in
-    let over-end = (c.measure_stmt-over-in-While.ensures w.body w.body-at).0 ∙ ap (end_of_stmt w.body) body_is in
+    let body_room = w.body_room in
+    let over-end = (c.measure_stmt-over-in-While.ensures w.body w.body_at).0 ∙ ap (end_of_stmt w.body) body_is in
     let room = w.room in
     let way = c.enter-q.ensures.ends in
     let out = c.leave-r.ensures.ends in
     let r-is : c.leave-r.result ≡ loop_place w.test at = omega arith in
-    let end = c.emit_stmt-s.ensures.ends w.body w.body-at ∙ ap (end_of_stmt w.body) r-is in
+    let end = c.emit_stmt-s.ensures.ends w.body w.body_at ∙ ap (end_of_stmt w.body) r-is in
     omega (arith, c.requires.whole)
 
 pub returns-in-While : goal.returns-in-While
 returns-in-While t c =
     let nodes = c.args.nodes.now in let at = c.args.at in
     let w = while_work nodes c.args.i c.in-While.test c.in-While.body at c.in-While.is c.requires.works in
-    let test-end = expr_ended nodes c.in-While.test w.test at c.emit_work-p-in-While.result w.test-at c.emit_work-p-in-While.ensures.ends in
+    let test-end = expr_ended nodes c.in-While.test w.test at c.emit_work-p-in-While.result w.test_at c.emit_work-p-in-While.ensures.ends in
     let body_is : c.emit_work-p-in-While.result + loop_words ≡ loop_place w.test at = omega arith in
-    let body_room = w.body-room in
-    let over-end = (c.measure_stmt-over-in-While.ensures w.body w.body-at).0 ∙ ap (end_of_stmt w.body) body_is in
+    let body_room = w.body_room in
+    let over-end = (c.measure_stmt-over-in-While.ensures w.body w.body_at).0 ∙ ap (end_of_stmt w.body) body_is in
     let room = w.room in
     let way = c.enter-q.ensures.ends in
     let out = c.leave-r.ensures.ends in
     let r-is : c.leave-r.result ≡ loop_place w.test at = omega arith in
-    let end = c.emit_stmt-s.ensures.ends w.body w.body-at ∙ ap (end_of_stmt w.body) r-is in
+    let end = c.emit_stmt-s.ensures.ends w.body w.body_at ∙ ap (end_of_stmt w.body) r-is in
     let i = c.args.i in let cells = c.args.cells in let places = c.args.places.now in let m = c.args.image.now in
     let p = c.emit_work-p-in-While in let q = c.enter-q in let r = c.leave-r in let s = c.emit_stmt-s in let f = c.again in
     let j = c.in-While.test in let k = c.in-While.body in let e = c.in-While.is in

@@ -18,36 +18,36 @@ pub finish-requires-in-One : goal.finish-requires-in-One
 finish-requires-in-One t c =
     let nodes = c.args.nodes.now in let i = c.args.i in
     let w = one_work nodes i c.in-One.a c.args.at c.requires.works c.in-One.ensures in
-    let end = expr_ended nodes c.in-One.a w.expr c.args.at c.emit_work-end.result w.expr-at c.emit_work-end.ensures.ends in
+    let end = expr_ended nodes c.in-One.a w.expr c.args.at c.emit_work-end.result w.expr_at c.emit_work-end.ensures.ends in
     record { fits = c.requires.works.node_fits; room = omega (arith, ap (past_last (node_at nodes i)) end, w.room, c.requires.whole) }
 
 pub emit_work-p-requires : goal.emit_work-p-requires
 emit_work-p-requires t c =
     let w = two_work c.args.nodes.now c.args.i c.in-Two.a c.in-Two.b c.args.at c.requires.works c.in-Two.ensures in
-    (omega (arith, w.first-later, w.inside), (w.first-works, c.requires.whole))
+    (omega (arith, w.first_later, w.inside), (w.first_works, c.requires.whole))
 
 pub push-q-requires : goal.push-q-requires
 push-q-requires t c =
     let nodes = c.args.nodes.now in
     let w = two_work nodes c.args.i c.in-Two.a c.in-Two.b c.args.at c.requires.works c.in-Two.ensures in
-    let end = expr_ended nodes c.in-Two.a w.first c.args.at c.emit_work-p.result w.first-at c.emit_work-p.ensures.ends in
+    let end = expr_ended nodes c.in-Two.a w.first c.args.at c.emit_work-p.result w.first_at c.emit_work-p.ensures.ends in
     omega (arith, w.middle, c.requires.whole)
 
 pub emit_work-r-requires : goal.emit_work-r-requires
 emit_work-r-requires t c =
     let nodes = c.args.nodes.now in
     let w = two_work nodes c.args.i c.in-Two.a c.in-Two.b c.args.at c.requires.works c.in-Two.ensures in
-    let end = expr_ended nodes c.in-Two.a w.first c.args.at c.emit_work-p.result w.first-at c.emit_work-p.ensures.ends in
+    let end = expr_ended nodes c.in-Two.a w.first c.args.at c.emit_work-p.result w.first_at c.emit_work-p.ensures.ends in
     let middle : past push (end_of_expr w.first c.args.at) ≡ c.push-q.result = omega (arith, c.push-q.ensures.ends) in
-    (omega (arith, w.second-later, w.inside), (subst (λ (p : ℕ). Works nodes c.in-Two.b p) middle w.second-works, omega (arith, c.requires.whole)))
+    (omega (arith, w.second_later, w.inside), (subst (λ (p : ℕ). Works nodes c.in-Two.b p) middle w.second_works, omega (arith, c.requires.whole)))
 
 pub finish-requires-in-Two : goal.finish-requires-in-Two
 finish-requires-in-Two t c =
     let nodes = c.args.nodes.now in let i = c.args.i in
     let w = two_work nodes i c.in-Two.a c.in-Two.b c.args.at c.requires.works c.in-Two.ensures in
-    let end = expr_ended nodes c.in-Two.a w.first c.args.at c.emit_work-p.result w.first-at c.emit_work-p.ensures.ends in
+    let end = expr_ended nodes c.in-Two.a w.first c.args.at c.emit_work-p.result w.first_at c.emit_work-p.ensures.ends in
     let middle : c.push-q.result ≡ past push (end_of_expr w.first c.args.at) = omega (arith, c.push-q.ensures.ends) in
-    let end' = expr_ended nodes c.in-Two.b w.second c.push-q.result c.emit_work-r.result w.second-at c.emit_work-r.ensures.ends ∙ ap (end_of_expr w.second) middle in
+    let end' = expr_ended nodes c.in-Two.b w.second c.push-q.result c.emit_work-r.result w.second_at c.emit_work-r.ensures.ends ∙ ap (end_of_expr w.second) middle in
     record { fits = c.requires.works.node_fits; room = omega (arith, ap (past_last (node_at nodes i)) end', w.room, c.requires.whole) }
 
 pub returns-in-One : goal.returns-in-One

@@ -16,27 +16,27 @@ measure_work-x-requires t c =
 pub overflow_add-result-in-One : goal.overflow_add-result-in-One
 overflow_add-result-in-One t c =
     let w = one_work c.args.nodes.now c.args.i c.in-One.a c.args.at c.requires c.in-One.ensures in
-    let m = expr_measured c.args.nodes.now c.in-One.a w.expr c.args.at c.measure_work-x.result w.expr-at c.measure_work-x.ensures in
+    let m = expr_measured c.args.nodes.now c.in-One.a w.expr c.args.at c.measure_work-x.result w.expr_at c.measure_work-x.ensures in
     let last = c.last_words-words.ensures (end_of_expr w.expr c.args.at) in
     omega (arith, m.0, w.room)
 
 pub measure_work-x-requires-in-Two : goal.measure_work-x-requires-in-Two
 measure_work-x-requires-in-Two t c =
     let w = two_work c.args.nodes.now c.args.i c.in-Two.a c.in-Two.b c.args.at c.requires c.in-Two.ensures in
-    (omega (arith, w.first-later, w.inside), w.first-works)
+    (omega (arith, w.first_later, w.inside), w.first_works)
 
 pub overflow_add-x : goal.overflow_add-x
 overflow_add-x t c =
     let w = two_work c.args.nodes.now c.args.i c.in-Two.a c.in-Two.b c.args.at c.requires c.in-Two.ensures in
-    let m = expr_measured c.args.nodes.now c.in-Two.a w.first c.args.at c.measure_work-x-in-Two.result w.first-at c.measure_work-x-in-Two.ensures in
+    let m = expr_measured c.args.nodes.now c.in-Two.a w.first c.args.at c.measure_work-x-in-Two.result w.first_at c.measure_work-x-in-Two.ensures in
     omega (arith, m.0, w.middle)
 
 pub measure_work-y-requires : goal.measure_work-y-requires
 measure_work-y-requires t c =
     let w = two_work c.args.nodes.now c.args.i c.in-Two.a c.in-Two.b c.args.at c.requires c.in-Two.ensures in
-    let m = expr_measured c.args.nodes.now c.in-Two.a w.first c.args.at c.measure_work-x-in-Two.result w.first-at c.measure_work-x-in-Two.ensures in
+    let m = expr_measured c.args.nodes.now c.in-Two.a w.first c.args.at c.measure_work-x-in-Two.result w.first_at c.measure_work-x-in-Two.ensures in
     let middle : past push (end_of_expr w.first c.args.at) ≡ c.measure_work-x-in-Two.result.end + push_words = omega (arith, m.0) in
-    (omega (arith, w.second-later, w.inside), subst (λ (p : ℕ). Works c.args.nodes.now c.in-Two.b p) middle w.second-works)
+    (omega (arith, w.second_later, w.inside), subst (λ (p : ℕ). Works c.args.nodes.now c.in-Two.b p) middle w.second_works)
 
 pub overflow_add-result-in-Two : goal.overflow_add-result-in-Two
 overflow_add-result-in-Two t c =

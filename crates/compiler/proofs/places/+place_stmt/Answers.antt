@@ -14,14 +14,14 @@ measure_stmt-x-requires t c = (then_work c.args.nodes.now c.args.i c.in-Then.a c
 pub place_stmt-q-requires : goal.place_stmt-q-requires
 place_stmt-q-requires t c =
     let w = then_work c.args.nodes.now c.args.i c.in-Then.a c.in-Then.b c.args.at c.in-Then.is c.requires in
-    (omega (arith, w.first-later, w.inside), w.first-works)
+    (omega (arith, w.first_later, w.inside), w.first_works)
 
 pub place_stmt-requires : goal.place_stmt-requires
 place_stmt-requires t c =
     let nodes = c.args.nodes.now in
     let w = then_work nodes c.args.i c.in-Then.a c.in-Then.b c.args.at c.in-Then.is c.requires in
-    let end = (c.measure_stmt-x.ensures w.first w.first-at).0 in
-    (omega (arith, w.second-later, w.inside), subst (λ (p : ℕ). StmtWorks nodes c.in-Then.b p) (sym end) w.second-works)
+    let end = (c.measure_stmt-x.ensures w.first w.first_at).0 in
+    (omega (arith, w.second_later, w.inside), subst (λ (p : ℕ). StmtWorks nodes c.in-Then.b p) (sym end) w.second_works)
 
 pub returns-in-Then : goal.returns-in-Then
 returns-in-Then t c =
@@ -37,14 +37,14 @@ pub overflow_add-else_place : goal.overflow_add-else_place
 overflow_add-else_place t c =
     let nodes = c.args.nodes.now in
     let w = if_work nodes c.args.i c.in-If.test c.in-If.first c.in-If.second c.args.at c.in-If.is c.requires in
-    omega (arith, else_is nodes c.in-If.test c.args.at c.measure_work-x.result w.test w.test-at c.measure_work-x.ensures, w.else-room)
+    omega (arith, else_is nodes c.in-If.test c.args.at c.measure_work-x.result w.test w.test_at c.measure_work-x.ensures, w.else_room)
 
 pub measure_stmt-y-requires : goal.measure_stmt-y-requires
 measure_stmt-y-requires t c =
     let nodes = c.args.nodes.now in
     let w = if_work nodes c.args.i c.in-If.test c.in-If.first c.in-If.second c.args.at c.in-If.is c.requires in
-    let place = else_is nodes c.in-If.test c.args.at c.measure_work-x.result w.test w.test-at c.measure_work-x.ensures in
-    subst (λ (p : ℕ). StmtWorks nodes c.in-If.second p) (sym place) w.second-works
+    let place = else_is nodes c.in-If.test c.args.at c.measure_work-x.result w.test w.test_at c.measure_work-x.ensures in
+    subst (λ (p : ℕ). StmtWorks nodes c.in-If.second p) (sym place) w.second_works
 
 pub place_work-q-requires : goal.place_work-q-requires
 place_work-q-requires t c = (if_work c.args.nodes.now c.args.i c.in-If.test c.in-If.first c.in-If.second c.args.at c.in-If.is c.requires).test_works
@@ -53,21 +53,21 @@ pub overflow_add-y : goal.overflow_add-y
 overflow_add-y t c =
     let nodes = c.args.nodes.now in let j = c.in-If.test in let n = c.in-If.second in
     let w = if_work nodes c.args.i j c.in-If.first n c.args.at c.in-If.is c.requires in
-    omega (arith, then_is nodes j n c.args.at c.measure_work-x.result c.measure_stmt-y.result w.test w.second w.test-at w.second-at c.measure_work-x.ensures c.measure_stmt-y.ensures, w.second-room)
+    omega (arith, then_is nodes j n c.args.at c.measure_work-x.result c.measure_stmt-y.result w.test w.second w.test_at w.second_at c.measure_work-x.ensures c.measure_stmt-y.ensures, w.second_room)
 
 pub place_stmt-r-requires : goal.place_stmt-r-requires
 place_stmt-r-requires t c =
     let nodes = c.args.nodes.now in let j = c.in-If.test in let n = c.in-If.second in
     let w = if_work nodes c.args.i j c.in-If.first n c.args.at c.in-If.is c.requires in
-    let place = then_is nodes j n c.args.at c.measure_work-x.result c.measure_stmt-y.result w.test w.second w.test-at w.second-at c.measure_work-x.ensures c.measure_stmt-y.ensures in
-    (omega (arith, w.first-later, w.inside), subst (λ (p : ℕ). StmtWorks nodes c.in-If.first p) (sym place) w.first-works)
+    let place = then_is nodes j n c.args.at c.measure_work-x.result c.measure_stmt-y.result w.test w.second w.test_at w.second_at c.measure_work-x.ensures c.measure_stmt-y.ensures in
+    (omega (arith, w.first_later, w.inside), subst (λ (p : ℕ). StmtWorks nodes c.in-If.first p) (sym place) w.first_works)
 
 pub place_stmt-requires-in-If : goal.place_stmt-requires-in-If
 place_stmt-requires-in-If t c =
     let nodes = c.args.nodes.now in
     let w = if_work nodes c.args.i c.in-If.test c.in-If.first c.in-If.second c.args.at c.in-If.is c.requires in
-    let place = else_is nodes c.in-If.test c.args.at c.measure_work-x.result w.test w.test-at c.measure_work-x.ensures in
-    (omega (arith, w.second-later, w.inside), subst (λ (p : ℕ). StmtWorks nodes c.in-If.second p) (sym place) w.second-works)
+    let place = else_is nodes c.in-If.test c.args.at c.measure_work-x.result w.test w.test_at c.measure_work-x.ensures in
+    (omega (arith, w.second_later, w.inside), subst (λ (p : ℕ). StmtWorks nodes c.in-If.second p) (sym place) w.second_works)
 
 pub returns-in-If : goal.returns-in-If
 returns-in-If t c =
@@ -86,14 +86,14 @@ pub overflow_add-x : goal.overflow_add-x
 overflow_add-x t c =
     let nodes = c.args.nodes.now in
     let w = while_work nodes c.args.i c.in-While.test c.in-While.body c.args.at c.in-While.is c.requires in
-    omega (arith, loop_is nodes c.in-While.test c.args.at c.measure_work-x-in-While.result w.test w.test-at c.measure_work-x-in-While.ensures, w.body-room)
+    omega (arith, loop_is nodes c.in-While.test c.args.at c.measure_work-x-in-While.result w.test w.test_at c.measure_work-x-in-While.ensures, w.body_room)
 
 pub place_stmt-requires-in-While : goal.place_stmt-requires-in-While
 place_stmt-requires-in-While t c =
     let nodes = c.args.nodes.now in
     let w = while_work nodes c.args.i c.in-While.test c.in-While.body c.args.at c.in-While.is c.requires in
-    let place = loop_is nodes c.in-While.test c.args.at c.measure_work-x-in-While.result w.test w.test-at c.measure_work-x-in-While.ensures in
-    (omega (arith, w.body-later, w.inside), subst (λ (p : ℕ). StmtWorks nodes c.in-While.body p) (sym place) w.body-works)
+    let place = loop_is nodes c.in-While.test c.args.at c.measure_work-x-in-While.result w.test w.test_at c.measure_work-x-in-While.ensures in
+    (omega (arith, w.body_later, w.inside), subst (λ (p : ℕ). StmtWorks nodes c.in-While.body p) (sym place) w.body_works)
 
 pub returns-in-While : goal.returns-in-While
 returns-in-While t c =

@@ -20,20 +20,20 @@ measure_work-x-requires t c = (two_work c.args.nodes.now c.args.i c.in-Two.a c.i
 pub place_work-q-requires : goal.place_work-q-requires
 place_work-q-requires t c =
     let w = two_work c.args.nodes.now c.args.i c.in-Two.a c.in-Two.b c.args.at c.requires c.in-Two.ensures in
-    (omega (arith, w.first-later, w.inside), w.first-works)
+    (omega (arith, w.first_later, w.inside), w.first_works)
 
 pub overflow_add-x : goal.overflow_add-x
 overflow_add-x t c =
     let w = two_work c.args.nodes.now c.args.i c.in-Two.a c.in-Two.b c.args.at c.requires c.in-Two.ensures in
-    let m = expr_measured c.args.nodes.now c.in-Two.a w.first c.args.at c.measure_work-x.result w.first-at c.measure_work-x.ensures in
+    let m = expr_measured c.args.nodes.now c.in-Two.a w.first c.args.at c.measure_work-x.result w.first_at c.measure_work-x.ensures in
     omega (arith, m.0, w.middle)
 
 pub place_work-requires-in-Two : goal.place_work-requires-in-Two
 place_work-requires-in-Two t c =
     let w = two_work c.args.nodes.now c.args.i c.in-Two.a c.in-Two.b c.args.at c.requires c.in-Two.ensures in
-    let m = expr_measured c.args.nodes.now c.in-Two.a w.first c.args.at c.measure_work-x.result w.first-at c.measure_work-x.ensures in
+    let m = expr_measured c.args.nodes.now c.in-Two.a w.first c.args.at c.measure_work-x.result w.first_at c.measure_work-x.ensures in
     let middle : past push (end_of_expr w.first c.args.at) ≡ c.measure_work-x.result.end + push_words = omega (arith, m.0) in
-    (omega (arith, w.second-later, w.inside), subst (λ (p : ℕ). Works c.args.nodes.now c.in-Two.b p) middle w.second-works)
+    (omega (arith, w.second_later, w.inside), subst (λ (p : ℕ). Works c.args.nodes.now c.in-Two.b p) middle w.second_works)
 
 pub returns-in-One : goal.returns-in-One
 returns-in-One t c =

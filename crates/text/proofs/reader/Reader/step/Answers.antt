@@ -3,4 +3,4 @@ use Rattle.text.proofs.Decimals.{number_of_sound}
 use Rattle.text.proofs.reader.Reader.step.Goals as goal
 
 pub take-requires : goal.take-requires
-take-requires c = ltb→lt c.in_ok-n.n 100000 (number_of_sound c.args.w.now c.in_ok-n.n (sym c.in_ok-n.ensures)).1
+take-requires c = ltb→lt c.in_ok-n-in-Number.n 100000 (number_of_sound c.args.w.now c.in_ok-n-in-Number.n (sym c.in_ok-n-in-Number.ensures)).1
