@@ -14,7 +14,7 @@ pub struct Options {
 // A refusal that names what was given.
 fn refused(heap: Global, what: &str, given: &str) -> anyhow::Error {
     match format!(in heap; "{what}: '{given}'") {
-        Ok(text) => text.as_str().into(),
+        Ok(text) => anyhow!("{text}"),
         Err(e) => e.into(),
     }
 }
