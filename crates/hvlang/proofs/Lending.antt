@@ -1,18 +1,18 @@
 -- A program that is loaded is lent to the interpreter: its sizes are within the limits, and the table's first entries and
 -- as many globals and cells as it has are its own.
-use Rattle.std.proofs.Common.{◌≡◌, ℕ, ◌-◌, ◌<◌, ◌≤◌, ◌&&◌, T, leb, List, length, take, replicate, sym, refl, ap, ◌∙◌, subst, arith}
+use Rattle.std.proofs.Common.{◌≡◌, ℕ, ◌-◌, ◌<◌, ◌≤◌, ◌&&◌, T, leb, List, length, take, replicate, sym, ap, ◌∙◌, subst, arith}
 use lib.ListN.{length-replicate}
 use Rattle.std.proofs.lemmas.List.{get_or-take, length-take-le}
 use Rattle.std.proofs.lemmas.Bool.{leb-true}
 use Rattle.words.proofs.Tests.{TLeft, TRight, T_true}
 use Rattle.language.specs.Language.{Program, Proc}
 use Rattle.language.specs.Limits.{fits, fits_procs, signs, most_globals, most_cells, most_procs, most_signs}
-use Rattle.language.specs.Nodes.{Holds, IsProc, entry_at}
+use Rattle.language.specs.Nodes.{Holds, IsProc}
 use Rattle.language.specs.declared.nodes.Node.{Node}
 use Rattle.language.specs.declared.nodes.Procedure.{Procedure}
 use Rattle.text.specs.declared.load.Sizes.{Sizes}
 use Rattle.text.specs.Loads.{Sized}
-use Rattle.interpreter.specs.Running.{Memory, memory}
+use Rattle.interpreter.specs.Running.{memory}
 use Rattle.interpreter.specs.Interpreter.{Lent}
 use Rattle.interpreter.proofs.Calling.{proc_inside}
 

@@ -1,23 +1,22 @@
 -- A call: the procedure that is found, no room for its frame or no fuel for its body, and what comes of its body, after
 -- which the caller's locals are back.
-use Rattle.std.proofs.Common.{◌≡◌, ℕ, zero, suc, ◌+◌, ◌-◌, ◌<◌, ◌≤◌, Bool, true, false, cond, ltb, List, [], ◌∷◌, ◌++◌, length, get_or, take, drop, replicate, Ok, Err, Result, sym, refl, ap, ◌∙◌, subst, arith}
+use Rattle.std.proofs.Common.{◌≡◌, ℕ, zero, suc, ◌+◌, ◌-◌, ◌<◌, ◌≤◌, Bool, true, false, cond, ltb, List, [], ◌∷◌, length, get_or, take, drop, replicate, Ok, Err, sym, refl, ap, ◌∙◌, subst, arith}
 use mathlib.Core.Option.{Option, some, none}
 use Rattle.std.proofs.lemmas.List.{get_or-take}
 use Rattle.std.proofs.lemmas.Bool.{lt-ltb, le-ltb}
 use Rattle.words.specs.Words.{word}
 use Rattle.words.specs.Runs.{ended_full}
 use Rattle.words.proofs.Runs.{prefix_refl}
-use Rattle.language.specs.Language.{Stmt, Proc, Program, State, with_locals, Outcome, fine, ends, spent, bind, enter, room_inside, proc_at, frame_size, frame_words, stmt_height, run_stmt, run_call}
+use Rattle.language.specs.Language.{Proc, Program, State, with_locals, Outcome, fine, ends, bind, enter, room_inside, proc_at, frame_size, frame_words, stmt_height, run_stmt, run_call}
 use Rattle.language.specs.Nodes.{StmtAt}
 use Rattle.language.specs.declared.nodes.Node.{Node}
 use Rattle.interpreter.specs.declared.state.Routine.{Routine}
 use Rattle.interpreter.specs.declared.state.Counts.{Counts}
-use Rattle.interpreter.specs.declared.state.Value.{Value}
 use Rattle.interpreter.specs.declared.state.Stop.{Stop}
-use Rattle.interpreter.specs.declared.state.Stop.TheVariants.{Index, Full, Spent, NoOut}
+use Rattle.interpreter.specs.declared.state.Stop.TheVariants.{Full, Spent}
 use Rattle.interpreter.specs.declared.state.Here.{Here}
 use Rattle.interpreter.specs.Heights.{routine_at, Measured}
-use Rattle.interpreter.specs.Running.{Memory, memory, state_of, Grew, Came, Stopped, Stops, Executes, Held, Calls, Does}
+use Rattle.interpreter.specs.Running.{Memory, memory, state_of, Stops, Held, Calls, Does}
 use Rattle.interpreter.proofs.Unique.{same_stmt}
 use Rattle.interpreter.proofs.Outcomes.{Adds, grew_none, stops_bind}
 use Rattle.interpreter.proofs.Working.{value_of}

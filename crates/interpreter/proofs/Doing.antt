@@ -1,22 +1,22 @@
 -- What a statement does from what its parts do, kind by kind: first statements that begin with an expression, and where
 -- that stops; then each kind.
-use Rattle.std.proofs.Common.{◌≡◌, ℕ, zero, suc, ◌+◌, ◌-◌, ◌<◌, ◌≤◌, Bool, true, false, cond, eqb, ltb, List, [], ◌∷◌, ◌++◌, length, take, drop, Ok, Err, Result, sym, refl, ap, ◌∙◌, subst}
+use Rattle.std.proofs.Common.{◌≡◌, ℕ, suc, ◌<◌, ◌≤◌, Bool, true, false, cond, eqb, ltb, List, [], ◌∷◌, length, take, drop, Ok, Err, Result, sym, refl, ap, ◌∙◌, subst}
 use Rattle.std.proofs.lemmas.Bool.{lt-ltb, le-ltb}
-use Rattle.words.specs.Words.{put, front, rest}
-use Rattle.words.specs.Runs.{Prefix, ended_index}
+use Rattle.words.specs.Words.{put, rest}
+use Rattle.words.specs.Runs.{ended_index}
 use Rattle.words.proofs.Runs.{prefix_refl}
-use Rattle.language.specs.Language.{Expr, Stmt, then, while, Program, State, set_local, set_global, set_cell, put_out, take_word, Outcome, fine, ends, bind, if_cell, eval, run_stmt, run_call}
+use Rattle.language.specs.Language.{Expr, Stmt, then, while, Program, State, set_local, set_global, set_cell, put_out, Outcome, fine, ends, bind, if_cell, eval, run_stmt, run_call}
 use Rattle.language.specs.Nodes.{node_at, ExprAt, StmtAt}
 use Rattle.language.specs.declared.nodes.Node.{Node}
 use Rattle.language.specs.declared.nodes.Node.TheVariants as N
-use Rattle.language.proofs.Fuel.{outs, bind_more}
+use Rattle.language.proofs.Fuel.{bind_more}
 use Rattle.interpreter.specs.declared.state.Routine.{Routine}
 use Rattle.interpreter.specs.declared.state.Counts.{Counts}
 use Rattle.interpreter.specs.declared.state.Value.{Value}
 use Rattle.interpreter.specs.declared.state.Stop.{Stop}
-use Rattle.interpreter.specs.declared.state.Stop.TheVariants.{Index, Full, Spent, NoOut}
+use Rattle.interpreter.specs.declared.state.Stop.TheVariants.{Index}
 use Rattle.interpreter.specs.declared.state.Here.{Here}
-use Rattle.interpreter.specs.Running.{Memory, memory, state_of, Grew, Came, Stopped, Stops, Executes, Takes, Puts, Held, Values, Does, Repeats}
+use Rattle.interpreter.specs.Running.{Memory, memory, state_of, Stops, Executes, Takes, Puts, Held, Values, Does, Repeats}
 use Rattle.interpreter.proofs.Trees.{stmt_parts}
 use Rattle.interpreter.proofs.Outcomes.{expr_grows, stmt_grows, Adds, adds_cond, is_0, not_0, grew_none, stops_bind, executes_after}
 

@@ -1,7 +1,7 @@
 -- A call of procedure 0 with 0, over globals and cells that are all 0, is the program's run.
-use Rattle.std.proofs.Common.{◌≡◌, ℕ, ◌<◌, ◌≤◌, List, length, take, drop, replicate, Ok, Err, sym, refl, ap, ◌∙◌, subst, arith}
+use Rattle.std.proofs.Common.{◌≡◌, ℕ, ◌<◌, List, length, take, drop, replicate, Ok, Err, sym, refl, ap, ◌∙◌, subst, arith}
 use Rattle.words.specs.Runs.{Seen, ended_index, ended_full}
-use Rattle.language.specs.Language.{Program, State, Outcome, fine, ends, spent, run_call, start, source, seen_outcome, program_run, frame_room}
+use Rattle.language.specs.Language.{Program, State, Outcome, ends, spent, run_call, start, source, seen_outcome, program_run, frame_room}
 use Rattle.language.specs.declared.nodes.Node.{Node}
 use Rattle.language.specs.declared.nodes.Procedure.{Procedure}
 use Rattle.interpreter.specs.declared.state.Routine.{Routine}
@@ -12,7 +12,7 @@ use Rattle.interpreter.specs.declared.state.Stop.{Stop}
 use Rattle.interpreter.specs.declared.state.Stop.TheVariants as S
 use Rattle.interpreter.specs.declared.state.Ending.{Ending}
 use Rattle.interpreter.specs.declared.state.Ending.TheVariants as E
-use Rattle.interpreter.specs.Running.{Memory, memory, state_of, Grew, Came, Stopped, Held, Calls}
+use Rattle.interpreter.specs.Running.{Memory, memory, state_of, Grew, Stopped, Held, Calls}
 use Rattle.interpreter.specs.Interpreter.{ending_of, stopped_as, Lent, Shows, Interprets}
 
 abbrev pub no_counts : Counts

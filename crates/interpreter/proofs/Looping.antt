@@ -1,19 +1,18 @@
 -- A loop written as a loop: what it does from a turn on is what it does from its start. Each turn: the test stops, the
 -- test is 0, the body stops, the fuel is spent, or a further turn comes.
-use Rattle.std.proofs.Common.{◌≡◌, ℕ, zero, suc, ◌+◌, ◌-◌, ◌<◌, ◌≤◌, Bool, true, false, cond, eqb, List, [], ◌∷◌, ◌++◌, length, take, drop, Ok, Err, Result, sym, refl, ap, ◌∙◌, subst, arith}
-use Rattle.words.specs.Runs.{Prefix}
+use Rattle.std.proofs.Common.{◌≡◌, ℕ, suc, ◌-◌, cond, eqb, List, Ok, Err, Result, sym, refl, ap, subst, arith}
 use Rattle.words.proofs.Runs.{prefix_refl}
-use Rattle.language.specs.Language.{Expr, Stmt, while, Program, State, Outcome, fine, ends, spent, bind, eval, exec, run_stmt, run_call}
+use Rattle.language.specs.Language.{Expr, Stmt, while, Program, State, Outcome, fine, bind, eval, run_stmt, run_call}
 use Rattle.language.specs.Nodes.{ExprAt, StmtAt}
 use Rattle.language.specs.declared.nodes.Node.{Node}
-use Rattle.language.proofs.Fuel.{outs, bind_more}
+use Rattle.language.proofs.Fuel.{bind_more}
 use Rattle.interpreter.specs.declared.state.Routine.{Routine}
 use Rattle.interpreter.specs.declared.state.Counts.{Counts}
 use Rattle.interpreter.specs.declared.state.Value.{Value}
 use Rattle.interpreter.specs.declared.state.Stop.{Stop}
-use Rattle.interpreter.specs.declared.state.Stop.TheVariants.{Index, Full, Spent, NoOut}
+use Rattle.interpreter.specs.declared.state.Stop.TheVariants.{Spent}
 use Rattle.interpreter.specs.declared.state.Here.{Here}
-use Rattle.interpreter.specs.Running.{Memory, state_of, Grew, Came, Stopped, Stops, Executes, Held, Values, Does, Repeats}
+use Rattle.interpreter.specs.Running.{Memory, state_of, Stops, Executes, Held, Values, Does, Repeats}
 use Rattle.interpreter.proofs.Outcomes.{stmt_grows, Adds, adds_cond, is_0, not_0, grew_none, stops_bind, executes_after}
 
 -- the place of a turn with so much fuel

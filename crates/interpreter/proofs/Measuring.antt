@@ -1,7 +1,7 @@
 -- The height at a node from the heights at its parts: expressions with no part, one, two; then statements.
-use Rattle.std.proofs.Common.{◌≡◌, ℕ, zero, suc, ◌+◌, ◌<◌, ◌≤◌, max, ◌⊎◌, List, length, Some, None, Option, sym, refl, ap, ◌∙◌, subst, inl, inr, ⊎_elim, arith}
+use Rattle.std.proofs.Common.{◌≡◌, ℕ, ◌+◌, ◌<◌, max, List, length, Some, None, Option, sym, refl, ap, ◌∙◌, arith}
 use Rattle.language.specs.Language.{Expr, Stmt, then, setcell, if, while, height, stmt_height, both_height}
-use Rattle.language.specs.Nodes.{node_at, IsExpr, IsStmt, ExprAt, StmtAt, ExprNode, StmtNode, OnePart, TwoParts}
+use Rattle.language.specs.Nodes.{node_at, IsExpr, IsStmt, ExprNode, StmtNode}
 use Rattle.language.specs.declared.nodes.Node.{Node}
 use Rattle.language.specs.declared.nodes.Node.TheVariants as N
 use Rattle.interpreter.specs.Heights.{node_names, ExprHeight, StmtHeight, ExprPart, StmtPart, Small, higher_of, both_of}

@@ -1,11 +1,11 @@
 -- Outcomes in a row: what is put out only grows; a stop behind which more would have come is the stop; and what comes
 -- after a value.
-use Rattle.std.proofs.Common.{◌≡◌, ℕ, zero, suc, ◌+◌, ◌-◌, ◌<◌, ◌≤◌, Bool, true, false, cond, eqb, List, [], ◌∷◌, ◌++◌, length, take, drop, Ok, Err, Result, sym, refl, ap, ◌∙◌, subst, arith, length-append}
+use Rattle.std.proofs.Common.{◌≡◌, ℕ, ◌+◌, ◌-◌, ◌≤◌, Bool, true, false, cond, eqb, List, length, drop, Ok, Err, Result, sym, refl, ap, ◌∙◌, subst, arith, length-append}
 use Rattle.std.proofs.lemmas.Bool.{eq-eqb, ne_eqb}
 use Rattle.std.proofs.lemmas.List.{drop-drop}
 use Rattle.words.specs.Runs.{Prefix, ended_index, ended_full}
-use Rattle.language.specs.Language.{Expr, Stmt, Program, State, Outcome, fine, ends, spent, bind, eval, run_stmt, run_call, seen_outcome}
-use Rattle.language.proofs.Fuel.{outs, expr_extends, same_fuel, bind_more}
+use Rattle.language.specs.Language.{Expr, Stmt, Program, State, Outcome, fine, ends, spent, bind, eval, run_stmt, run_call}
+use Rattle.language.proofs.Fuel.{outs, expr_extends, same_fuel}
 use Rattle.interpreter.specs.declared.state.Counts.{Counts}
 use Rattle.interpreter.specs.declared.state.Value.{Value}
 use Rattle.interpreter.specs.declared.state.Stop.{Stop}

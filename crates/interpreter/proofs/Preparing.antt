@@ -1,13 +1,13 @@
 -- Routines made from a table: one more each turn; a body where no statement stands is of no program; and the routines, of
 -- which a call gets as many as there are procedures, are the program's.
-use Rattle.std.proofs.Common.{◌≡◌, ℕ, ◌+◌, ◌-◌, ◌<◌, ◌≤◌, ◌≢◌, List, length, get_or, take, set, sym, refl, ap, ◌∙◌, subst, arith, get_or-set_other, get_or-set_same, below_more}
+use Rattle.std.proofs.Common.{◌≡◌, ℕ, ◌+◌, ◌<◌, ◌≤◌, ◌≢◌, List, length, take, set, sym, ap, ◌∙◌, subst, arith, get_or-set_other, get_or-set_same, below_more}
 use Rattle.std.proofs.lemmas.List.{get_or-take, length-take-le}
-use Rattle.language.specs.Language.{Stmt, Proc, Program, stmt_height}
+use Rattle.language.specs.Language.{Stmt, Proc, Program}
 use Rattle.language.specs.Nodes.{StmtAt, Holds, entry_at}
 use Rattle.language.specs.declared.nodes.Node.{Node}
 use Rattle.language.specs.declared.nodes.Procedure.{Procedure}
 use Rattle.interpreter.specs.declared.state.Routine.{Routine}
-use Rattle.interpreter.specs.Heights.{node_names, routine_at, Measured, Ready, AllReady}
+use Rattle.interpreter.specs.Heights.{routine_at, Measured, Ready, AllReady}
 use Rattle.interpreter.specs.Running.{Held}
 use Rattle.interpreter.proofs.Calling.{proc_some, proc_inside}
 

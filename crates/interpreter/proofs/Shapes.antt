@@ -1,8 +1,8 @@
 -- Nodes of several kinds at once: what is common to the four operations on two, to the expressions with one part, and to
 -- the statements with one expression; and the nodes that are no expression, or no statement.
-use Rattle.std.proofs.Common.{◌≡◌, ℕ, zero, suc, ◌<◌, ◌⊎◌, List, length, sym, refl, ap, ◌∙◌, subst, inl, inr}
+use Rattle.std.proofs.Common.{◌≡◌, ℕ, ◌<◌, ◌⊎◌, List, refl, ap, inl, inr}
 use Rattle.words.specs.Words.{add16, sub16, nand16, less16}
-use Rattle.language.specs.Language.{Expr, num, loc, glob, cell, add, sub, nand, less, half, call, Stmt, skip, then, setloc, setglob, setcell, if, while, out, take, height, stmt_height, both_height, State, Outcome, fine, bind, eval}
+use Rattle.language.specs.Language.{Expr, cell, add, sub, nand, less, half, call, Stmt, setloc, setglob, out, height, stmt_height, both_height, State, Outcome, fine, bind, eval}
 use Rattle.language.specs.Nodes.{node_at, ExprNode, StmtNode, OnePart, TwoParts, ExprAt, StmtAt}
 use Rattle.language.specs.declared.nodes.Node.{Node}
 use Rattle.language.specs.declared.nodes.Node.TheVariants as N

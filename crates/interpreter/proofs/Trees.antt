@@ -1,7 +1,7 @@
 -- What stands at a node, from the node itself and the expressions and statements at its parts: what an expression or a
 -- statement at a node is made of; how deep it is counted does not matter; and how one is put together.
-use Rattle.std.proofs.Common.{◌≡◌, ℕ, zero, suc, ◌+◌, ◌<◌, ◌≤◌, max, ◌⊎◌, List, length, sym, refl, ap, ◌∙◌, subst, inl, inr, ⊎_elim, arith}
-use Rattle.language.specs.Language.{Expr, num, loc, glob, cell, add, sub, nand, less, half, call, Stmt, skip, then, setloc, setglob, setcell, if, while, out, take, height, stmt_height, both_height}
+use Rattle.std.proofs.Common.{◌≡◌, ℕ, zero, suc, ◌<◌, ◌≤◌, List, length, sym, subst, arith}
+use Rattle.language.specs.Language.{Expr, cell, add, sub, nand, less, half, call, Stmt}
 use Rattle.language.specs.Nodes.{node_at, ExprNode, IsExpr, StmtNode, IsStmt, ExprAt, StmtAt, OnePart, TwoParts}
 use Rattle.language.specs.declared.nodes.Node.{Node}
 use Rattle.language.specs.declared.nodes.Node.TheVariants as N

@@ -1,7 +1,7 @@
 -- At one node stands one expression, and one statement.
-use Rattle.std.proofs.Common.{◌≡◌, ℕ, zero, suc, List, sym, refl, ap, ◌∙◌}
+use Rattle.std.proofs.Common.{◌≡◌, ℕ, zero, suc, List, sym, ap, ◌∙◌}
 use Rattle.language.specs.Language.{Expr, cell, add, sub, nand, less, half, call, Stmt, then, setloc, setglob, setcell, if, while, out}
-use Rattle.language.specs.Nodes.{node_at, ExprNode, IsExpr, StmtNode, IsStmt, ExprAt, StmtAt, OnePart, TwoParts}
+use Rattle.language.specs.Nodes.{node_at, ExprNode, IsExpr, StmtNode, IsStmt, StmtAt, OnePart, TwoParts}
 use Rattle.language.specs.declared.nodes.Node.{Node}
 use Rattle.language.specs.declared.nodes.Node.TheVariants as N
 

@@ -1,21 +1,21 @@
 -- The value of an expression from the values of its parts, kind by kind: first where the first part stops, then each kind.
-use Rattle.std.proofs.Common.{◌≡◌, ℕ, zero, suc, ◌+◌, ◌-◌, ◌<◌, ◌≤◌, Bool, true, false, cond, ltb, ◌⊎◌, List, [], ◌∷◌, ◌++◌, length, take, drop, Ok, Err, Result, sym, refl, ap, ◌∙◌, subst, inl, inr, arith}
+use Rattle.std.proofs.Common.{◌≡◌, ℕ, ◌<◌, ◌≤◌, Bool, true, false, cond, ltb, List, length, take, Ok, Err, Result, sym, refl, ap, ◌∙◌, subst}
 use Rattle.std.proofs.lemmas.Bool.{lt-ltb, le-ltb}
 use Rattle.words.specs.Words.{word, half16}
-use Rattle.words.specs.Runs.{Prefix, ended_index}
+use Rattle.words.specs.Runs.{ended_index}
 use Rattle.words.proofs.Runs.{prefix_refl}
-use Rattle.language.specs.Language.{Expr, num, loc, glob, cell, half, call, Program, State, Outcome, fine, ends, bind, if_cell, eval, run_call}
+use Rattle.language.specs.Language.{Expr, Program, State, Outcome, fine, ends, bind, if_cell, eval, run_call}
 use Rattle.language.specs.Nodes.{node_at, ExprAt, IsExpr}
 use Rattle.language.specs.declared.nodes.Node.{Node}
 use Rattle.language.specs.declared.nodes.Node.TheVariants as N
 use Rattle.interpreter.specs.declared.state.Routine.{Routine}
-use Rattle.language.proofs.Fuel.{outs, bind_more}
+use Rattle.language.proofs.Fuel.{bind_more}
 use Rattle.interpreter.specs.declared.state.Counts.{Counts}
 use Rattle.interpreter.specs.declared.state.Value.{Value}
 use Rattle.interpreter.specs.declared.state.Stop.{Stop}
-use Rattle.interpreter.specs.declared.state.Stop.TheVariants.{Index, Full, Spent, NoOut}
+use Rattle.interpreter.specs.declared.state.Stop.TheVariants.{Index}
 use Rattle.interpreter.specs.declared.state.Here.{Here}
-use Rattle.interpreter.specs.Running.{Memory, state_of, Grew, Came, Stopped, Stops, Evaluates, Held, SomeExpr, Values, Calls}
+use Rattle.interpreter.specs.Running.{Memory, state_of, Stops, Evaluates, Held, Values, Calls}
 use Rattle.interpreter.proofs.Trees.{expr_parts}
 use Rattle.interpreter.proofs.Shapes.{Two}
 use Rattle.interpreter.proofs.Outcomes.{call_grows, expr_grows, Adds, adds_cond, grew_none, stops_bind, evaluates_after}

@@ -1,5 +1,5 @@
 -- What the parts of the interpreter promise: over lent memory, they come to what the definition comes to.
-use Rattle.std.specs.Prelude.{◌≡◌, ℕ, suc, ◌+◌, ◌<◌, ◌≤◌, List, length, take, drop, Ok, Err, Result}
+use Rattle.std.specs.Prelude.{◌≡◌, ℕ, suc, ◌<◌, ◌≤◌, List, length, take, drop, Ok, Err, Result}
 use Rattle.words.specs.Words.{add16, sub16, nand16, less16, front, rest}
 use Rattle.words.specs.Runs.{ended_index, ended_full}
 use Rattle.std.proofs.Math.Option.{some}

@@ -1,5 +1,5 @@
 -- The routines are the program's, globals and cells are 0, and so the call of procedure 0 is the program's run.
-use Rattle.std.proofs.Common.{◌≡◌, ℕ, ◌+◌, ◌-◌, ◌≤◌, List, length, take, drop, replicate, sym, refl, ap, ◌∙◌, subst, arith}
+use Rattle.std.proofs.Common.{◌≡◌, ℕ, ◌-◌, ◌≤◌, List, length, take, replicate, sym, ap, ◌∙◌, subst, arith}
 use Rattle.interpreter.specs.declared.Interpreted.{Interpreted}
 use Rattle.interpreter.specs.Interpreter.{Interprets}
 use Rattle.interpreter.specs.Running.{memory}

@@ -1,5 +1,5 @@
 -- A program that is loaded is lent, so what the interpreter says of every lent program holds of it.
-use Rattle.std.proofs.Common.{◌≡◌, ℕ, ◌-◌, ◌≤◌, length, take, sym, refl, ap, ◌∙◌, arith}
+use Rattle.std.proofs.Common.{◌≡◌, ℕ, ◌-◌, take, ap, arith}
 use Rattle.text.specs.Loads.{Loaded}
 use Rattle.hvlang.proofs.Lending.{Small, small, lent, own_length}
 use Rattle.hvlang.proofs.run.run_text.Goals as goal

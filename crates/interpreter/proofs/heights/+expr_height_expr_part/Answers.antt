@@ -1,11 +1,11 @@
-use Rattle.std.proofs.Common.{◌≡◌, ℕ, Option, sym, refl, subst, ⊎_elim, arith}
+use Rattle.std.proofs.Common.{ℕ, Option, sym, refl, subst, ⊎_elim, arith}
 use Rattle.language.specs.Language.{num, loc, glob}
 use Rattle.language.specs.Nodes.{node_at}
 use Rattle.language.specs.declared.nodes.Node.TheVariants as N
 use Rattle.interpreter.specs.Heights.{ExprHeight}
 use Rattle.interpreter.proofs.Trees.{expr_parts}
 use Rattle.interpreter.proofs.Shapes.{two_of, one_of, no_expr}
-use Rattle.interpreter.proofs.Measuring.{leaf_height, one_height, two_height, part_small}
+use Rattle.interpreter.proofs.Measuring.{leaf_height, one_height, two_height}
 use Rattle.interpreter.proofs.heights.+expr_height_expr_part.Goals as goal
 
 pub expr_height-returns-then-i-nodes : goal.expr_height-returns-then-i-nodes

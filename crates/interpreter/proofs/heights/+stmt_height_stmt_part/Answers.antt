@@ -1,4 +1,4 @@
-use Rattle.std.proofs.Common.{◌≡◌, ℕ, Option, sym, refl, ap, ◌∙◌, subst, ⊎_elim, arith}
+use Rattle.std.proofs.Common.{ℕ, Option, sym, refl, ap, ◌∙◌, subst, ⊎_elim, arith}
 use Rattle.language.specs.Language.{skip, take}
 use Rattle.language.specs.Nodes.{node_at}
 use Rattle.language.specs.declared.nodes.Node.TheVariants as N

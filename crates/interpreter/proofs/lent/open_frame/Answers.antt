@@ -1,4 +1,4 @@
-use Rattle.std.proofs.Common.{◌≡◌, ℕ, ◌+◌, ◌<◌, List, [], ◌∷◌, ◌++◌, length, take, replicate, sym, refl, ap, ◌∙◌, subst, add_comm, arith, length-set}
+use Rattle.std.proofs.Common.{◌≡◌, ℕ, ◌+◌, ◌<◌, List, [], ◌∷◌, ◌++◌, length, take, replicate, ap, ◌∙◌, subst, add_comm, arith, length-set}
 use Rattle.std.proofs.lemmas.List.{take_more_set, replicate_more}
 use Rattle.interpreter.proofs.lent.open_frame.Goals as goal
 

@@ -1,7 +1,6 @@
 -- Without room one word more is put out than there are; with room the word stands behind those put out before.
-use Rattle.std.proofs.Common.{◌≡◌, ◌+◌, List, length, take, sym, refl, ap, ◌∙◌, arith, length-set}
+use Rattle.std.proofs.Common.{◌+◌, length, take, ap, arith, length-set}
 use Rattle.std.proofs.lemmas.List.{length_push, take_all, take_more_set, drop-set-lt}
-use Rattle.language.specs.Language.{fine, State}
 use Rattle.interpreter.proofs.lent.put_out.Goals as goal
 
 pub returns-then-counts-out : goal.returns-then-counts-out
