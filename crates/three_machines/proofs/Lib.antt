@@ -1,2 +1,2 @@
 -- Lemmas on agreement.
-mod Words
+pub mod Words
