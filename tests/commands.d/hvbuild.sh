@@ -47,3 +47,8 @@ check 'help' 0 '' 'usage: hvbuild...' '' $hvbuild --help
 check 'an unknown option' 1 '' '' "hvbuild: unknown option (--help lists them): '--fast'" $hvbuild --fast
 check 'a text of as many bytes as there may be' 0 "$five$(printf '%1048546s' '')" '22744...' '' $hvbuild
 check 'a text of too many bytes' 1 "$five$(printf '%1048547s' '')" '' 'more than 1048576 bytes' $hvbuild
+check 'hvbuild: a word, though it has no tape' 1 "$five" '' "hvbuild: unknown option (--help lists them): '5'" $hvbuild 5
+check 'hvbuild: an empty option' 1 "$five" '' "hvbuild: unknown option (--help lists them): ''" $hvbuild ''
+check 'hvbuild: help reads no text' 0 'x' 'usage: hvbuild...' '' $hvbuild --help
+check 'hvbuild: a listing of no program' 1 'x' '' 'hvbuild: no program' $hvbuild --listing
+check 'hvbuild: a number of 65536' 1 'program 0 0 1 proc 0 out num 65536' '' 'hvbuild: limits' $hvbuild

@@ -15,3 +15,6 @@ check 'a number of 65536' 1 'program 0 0 1 proc 0 out num 65536' '' 'limits' $hv
 check 'no procedure' 1 'program 0 0 0' '' 'limits' $hvread
 check 'hvread help' 0 '' 'usage: hvread...' '' $hvread --help
 check 'hvread with an unknown option' 1 '' '' 'unknown option' $hvread --all
+check 'hvread: an empty option' 1 '' '' 'hvread: unknown option' $hvread ''
+check 'hvread help reads no text' 0 'x' 'usage: hvread...' '' $hvread --help
+check 'hvread: blanks alone' 1 ' \n\t\r ' '' 'no program' $hvread

@@ -1,4 +1,4 @@
--- How long code is: it ends where 'end-of-..' says; at most 10 words a sign and 80 a procedure; so the code of a program
+-- How long code is: it ends where 'end_of_..' says; at most 10 words a sign and 80 a procedure; so the code of a program
 -- within the limits leaves room for the globals.
 use Rattle.std.proofs.Common.{◌≡◌, ℕ, zero, suc, ◌+◌, ◌*◌, ◌≤◌, T, List, [], ◌∷◌, ◌++◌, length, refl, ap, ◌∙◌, arith}
 use Rattle.language.specs.Language.{Expr, num, loc, glob, cell, add, sub, nand, less, half, call, Stmt, skip, then, setloc, setglob, setcell, if, while, out, take, Proc, Program}

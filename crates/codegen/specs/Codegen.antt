@@ -1,5 +1,5 @@
--- The code of a program. Code is written with what comes after it: 'code-expr g e rest' is the code of e and then rest.
--- A part's code is written for the place where it stands if it names places of its own; 'end-of-..' is the place after it.
+-- The code of a program. Code is written with what comes after it: 'code_expr g e rest' is the code of e and then rest.
+-- A part's code is written for the place where it stands if it names places of its own; 'end_of_..' is the place after it.
 use Rattle.std.specs.Prelude.{ℕ, zero, suc, ◌+◌, ◌-◌, ◌/◌, ◌%◌, List, [], ◌∷◌, ◌++◌, map, length, replicate}
 use Rattle.words.specs.Words.{memory_size}
 use Rattle.language.specs.Language.{Expr, num, loc, glob, cell, add, sub, nand, less, half, call, Stmt, skip, then, setloc, setglob, setcell, if, while, out, take, Proc, Program, frame_size, frame_room}
