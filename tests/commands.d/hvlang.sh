@@ -78,8 +78,8 @@ lang 'calls without an end' 'program 0 0 2 proc 0 setloc 0 call 1 num 0 proc 0 t
 # procedure 1 takes 4 + 64 + 1 = 69 words and procedures 0 and 2 take 5: 118 calls of 1 fit (5 + 69 x 118 = 8147), and in the last the argument of a further one is still worked out
 lang 'the argument is worked out before the test for room' 'program 0 0 3 proc 0 setloc 0 call 1 num 0 proc 64 setloc 0 call 1 call 2 num 9 proc 0 out loc 0' "$(lines 118 9)\nfull"
 
-# The deepest recursion that fits, within a native stack of 8 MiB. Procedure 1 takes the tape's next word and, unless that
-# is 0, calls itself with something around the call; at the tape's end it gives 65535, or what BASE says.
+# The deepest recursion that fits, within a native stack of 8 MiB: nested calls, and second operands around them. Procedure 1
+# takes the tape's next word and, unless that is 0, calls itself with something around the call; at the tape's end it gives 65535, or what BASE says.
 ones() { yes 1 | head -n "$1"; }
 times() { local i; for ((i = 0; i < $1; i++)); do printf '%s ' "$2"; done; }
 # nested NAME CALLS BEFORE AFTER BASE OUTPUT: procedure 1 is called CALLS times, each inside the one before
@@ -91,13 +91,6 @@ nested() {
 # procedure 0 takes 4 + 0 + 2 = 6 words; with a height of 1, each call of procedure 1 takes 5: 1637 fit (6 + 5 x 1637 = 8191)
 nested '1637 calls, nothing around' 1637 '' '' 65535 '65535\ndone'
 nested '1638 calls: no room' 1638 '' '' 65535 'full'
-nested '1637 calls, each in 3 half' 1637 "$(times 3 half)" '' 65535 '0\ndone'
-nested '1637 calls, each in 100 half' 1637 "$(times 100 half)" '' 65535 '0\ndone'
-nested '1637 calls, each in 900 half' 1637 "$(times 900 half)" '' 65535 '0\ndone'
-# the cells lead from 0 to 1, from 1 to 2 and from 2 to 0: what remains of 1636 x 901 = 1474036 by 3 is 1
-nested '1637 calls, each in 901 cells' 1637 "$(times 901 cell)" '' 0 '1\ndone'
-# a sum with the call on its left has a height of 2, so that a call takes 6 words: 1364 fit (6 + 6 x 1364 = 8190); 1363 x 400 = 545200, less 8 x 65536
-nested '1364 calls, each on the left of 400 sums' 1364 "$(times 400 add)" "$(times 400 'num 1')" 0 '20912\ndone'
 # with the call on the right of 900 sums the height is 901, so that a call takes 905 words: 9 fit (6 + 905 x 9 = 8151); 8 x 900 = 7200
 nested '9 calls, each on the right of 900 sums' 9 "$(times 900 'add num 1')" '' 0 '7200\ndone'
 nested '10 calls, each on the right of 900 sums: no room' 10 "$(times 900 'add num 1')" '' 0 'full'
@@ -110,6 +103,7 @@ lang 'a million turns in two loops' "$million" '1\ndone'
 long='program 3 0 1 proc 0 then setglob 1 num 16 then while less glob 0 num 62500 then setglob 0 add glob 0 num 1 setglob 2 glob 0 out glob 2'
 lang 'a loop of 62500 turns' "$long" '62500\ndone'
 one_loop='program 3 0 1 proc 0 then setglob 1 num 16 then while glob 1 then setglob 0 add glob 0 num 1 if less glob 0 num 62500 skip then setglob 0 num 0 setglob 1 sub glob 1 num 1 out num 5'
+lang 'one loop of a million turns' "$one_loop" '5\ndone'
 check 'one loop of a million turns, within a native stack of 8 MiB' 0 "$one_loop" '5\ndone' '' bash -c 'ulimit -s 8192 && exec "$1"' hvlang $hvlang
 forever='program 0 0 1 proc 0 while num 1 skip'
 lang 'a program that never ends' "$forever" 'still running after calls and turns 1000 deep' --fuel 1000
