@@ -50,8 +50,8 @@ fn input(rt: &HostRuntime) -> io::Result<Vec<u8>> {
     Ok(text)
 }
 
-fn main(rt: HostRuntime) -> io::Result<ExitCode> {
-    let mut args = env::args(&rt)?;
+fn hvread(rt: &HostRuntime) -> io::Result<ExitCode> {
+    let mut args = env::args(rt)?;
     let _ = args.next();
     if let Some(option) = args.next() {
         if option.as_str() == "--help" {
@@ -61,6 +61,16 @@ fn main(rt: HostRuntime) -> io::Result<ExitCode> {
         eprintln!(rt; "hvread: unknown option {option} (see hvread --help)")?;
         return Ok(ExitCode::FAILURE);
     }
-    let text = input(&rt)?;
-    answer(&rt, text.as_slice())
+    let text = input(rt)?;
+    answer(rt, text.as_slice())
+}
+
+fn main(rt: HostRuntime) -> io::Result<ExitCode> {
+    match hvread(&rt) {
+        Ok(status) => Ok(status),
+        Err(e) => {
+            eprintln!(rt; "hvread: {e}")?;
+            Ok(ExitCode::FAILURE)
+        }
+    }
 }
