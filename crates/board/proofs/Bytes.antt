@@ -37,14 +37,6 @@ pub bit_low : (b : Bool) → bit b < 2
 bit_low true = lit< tt
 bit_low false = lit< tt
 
-pub bit_high : (n : ℕ) → (n ≡ 0 → ⊥) → 1 ≡ bit (level n)
-bit_high zero h = absurd (h refl)
-bit_high (suc n) h = refl
-
-pub bit_zero : (n : ℕ) → n ≡ 0 → 0 ≡ bit (level n)
-bit_zero zero h = refl
-bit_zero (suc n) h = absurd (omega arith)
-
 pub not_zero : (n : ℕ) → not (eqb n 0) ≡ level n
 not_zero zero = refl
 not_zero (suc n) = ap not (ne_eqb (suc n) 0 (λ e. omega arith))

@@ -1,11 +1,11 @@
--- The sheet as the code cuts it: its parts, that a sound sheet is one that fits, and that its parts are sound.
-use Rattle.std.proofs.Common.{◌≡◌, ℕ, zero, suc, ◌+◌, ◌-◌, ◌*◌, ◌≤◌, Bool, true, false, List, [], ◌∷◌, length, take, drop, sym, refl, ap, ◌∙◌, subst, arith}
+-- The sheet as the code cuts it: its parts, and that a sound sheet is one that fits.
+use Rattle.std.proofs.Common.{◌≡◌, ℕ, zero, suc, ◌+◌, ◌-◌, ◌*◌, ◌≤◌, List, [], ◌∷◌, length, take, drop, sym, refl, ap, ◌∙◌, subst, arith}
 use Rattle.std.proofs.lemmas.List.{length-take-le, length-drop}
 use Rattle.words.specs.Words.{memory_size}
 use Rattle.circuit.specs.Circuit.{SoundGates, AllBelow, input_signals, pin_count}
 use Rattle.circuit.specs.Sheet.{pairs, levels, drawn, sheet_size}
 use Rattle.board.specs.Board.{Fits}
-use Rattle.board.specs.Slices.{Tells, SoundSheet, SoundParts}
+use Rattle.board.specs.Slices.{SoundSheet}
 use Rattle.board.proofs.Bytes.{length_levels}
 
 -- `&sheet[flops..wires_end]` and the two parts behind it
@@ -35,7 +35,7 @@ flops_length sheet f l = length_levels (take f sheet) ∙ length-take-le f sheet
 wires_length : (sheet : List ℕ) (f k : ℕ) → sheet_size f k ≤ length sheet → length (take (2 * k) (drop f sheet)) ≡ 2 * k
 wires_length sheet f k l = let h : 2 * k ≤ length (drop f sheet) = omega (arith, length-drop f sheet) in length-take-le (2 * k) (drop f sheet) h
 
-next_length : (sheet : List ℕ) (f k : ℕ) → sheet_size f k ≤ length sheet → length (take f (drop (f + 2 * k) sheet)) ≡ f
+pub next_length : (sheet : List ℕ) (f k : ℕ) → sheet_size f k ≤ length sheet → length (take f (drop (f + 2 * k) sheet)) ≡ f
 next_length sheet f k l = let h : f ≤ length (drop (f + 2 * k) sheet) = omega (arith, length-drop (f + 2 * k) sheet) in length-take-le f (drop (f + 2 * k) sheet) h
 
 pins_length : (sheet : List ℕ) (f k : ℕ) → sheet_size f k ≤ length sheet → length (take pin_count (drop (2 * f + 2 * k) sheet)) ≡ pin_count
@@ -77,21 +77,3 @@ sound_from sheet f k state mem t =
       next = subst (λ (m : ℕ). AllBelow (drawn f k sheet).next m) n t.whole.next_sound;
       pins = subst (λ (m : ℕ). AllBelow (drawn f k sheet).pins m) n t.whole.pins_sound;
     }
-
--- the parts of a sound sheet
-pub parts_from : (sheet wires next pins : List ℕ) (f k n : ℕ) → SoundSheet sheet f k → n ≡ input_signals + (f + k)
-    → wires ≡ take (2 * k) (drop f sheet) → next ≡ take f (drop (f + 2 * k) sheet) → pins ≡ take pin_count (drop (2 * f + 2 * k) sheet) → SoundParts wires next pins f n
-parts_from sheet wires next pins f k n s en ew ex ep = record {
-  wires_all = let l = ap length ew ∙ wires_length sheet f k s.long in omega arith;
-  room = omega arith;
-  wires_sound = subst (λ (t : List ℕ). SoundGates (pairs t) (input_signals + f)) (sym ew) s.gates;
-  next_all = ap length ex ∙ next_length sheet f k s.long;
-  next_sound = subst (λ (m : ℕ). AllBelow next m) (sym en) (subst (λ (t : List ℕ). AllBelow t (input_signals + (f + k))) (sym ex) s.next);
-  pins_all = ap length ep ∙ pins_length sheet f k s.long;
-  pins_sound = subst (λ (m : ℕ). AllBelow pins m) (sym en) (subst (λ (t : List ℕ). AllBelow t (input_signals + (f + k))) (sym ep) s.pins);
-}
-
--- an answer of yes or no to one question answers another that is the same
-pub tells_map : (P Q : Type 0) (r : Bool) → (P → Q) → (Q → P) → Tells P r → Tells Q r
-tells_map P Q true f g t = f t
-tells_map P Q false f g t = λ q. t (g q)

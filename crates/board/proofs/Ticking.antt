@@ -1,8 +1,9 @@
 -- A cycle of the board from its parts, and the words that cycles put out.
-use Rattle.std.proofs.Common.{◌≡◌, ℕ, zero, suc, ◌-◌, ◌<◌, ◌≤◌, Bool, true, false, cond, List, [], ◌∷◌, ◌++◌, map, length, take, drop, sym, ap, ◌∙◌, arith}
-use Rattle.std.proofs.lemmas.List.{length-append, drop_all}
+use Rattle.std.proofs.Common.{◌≡◌, ℕ, zero, suc, ◌<◌, ◌≤◌, Bool, true, false, cond, List, [], ◌∷◌, ◌++◌, map, length, take, drop, sym, ap, ◌∙◌, arith}
+use Rattle.std.proofs.lemmas.List.{length-append}
 use Rattle.words.specs.Words.{bit_at, word, put, rest}
 use Rattle.words.specs.Runs.{running}
+use Rattle.words.specs.Endings.{halt_code}
 use Rattle.circuit.specs.Circuit.{Circuit, Board, cycle, tick, ticks, unless_halted, pin_levels, signals, address, datum, store_pin, emit_pin}
 use Rattle.circuit.specs.Sheet.{levels}
 use Rattle.board.specs.Slices.{Shown, standing}
@@ -13,20 +14,9 @@ use Rattle.board.specs.declared.cycle.Port.{Port}
 pub cond_true : {A : Type 0} (b : Bool) (x y : A) → b ≡ true → x ≡ cond b x y
 cond_true b x y e = ap (λ (t : Bool). cond t x y) (sym e)
 
-pub cond_false : {A : Type 0} (b : Bool) (x y : A) → b ≡ false → y ≡ cond b x y
-cond_false b x y e = ap (λ (t : Bool). cond t x y) (sym e)
-
--- at the tape's end nothing is left to take
-pub rest_none : (xs : List ℕ) (n : ℕ) → length xs ≤ n → drop n xs ≡ rest (drop n xs)
-rest_none xs n l = drop_all n xs l ∙ ap rest (sym (drop_all n xs l))
-
 -- a board that has not halted goes on
 pub goes_on : (c : Circuit) (b : Board) → b.halted ≡ running → tick c b ≡ cycle c b (pin_levels c b)
 goes_on c b z = ap (λ (h : ℕ). unless_halted h b (cycle c b (pin_levels c b))) z
-
-pub ticks_first : (n : ℕ) (c : Circuit) (b : Board) → 0 < n → ticks n c b ≡ ticks (n - 1) c (tick c b)
-ticks_first zero c b h = absurd (omega arith)
-ticks_first (suc n) c b h = let e : n ≡ suc n - 1 = omega arith in ap (λ (m : ℕ). ticks m c (tick c b)) e
 
 -- boards are equal where their parts are
 pub same_board : {s s' : List Bool} {m m' : List ℕ} {r r' : ℕ} {t t' o o' : List ℕ} {h h' : ℕ} → s ≡ s' → m ≡ m' → r ≡ r' → t ≡ t' → o ≡ o' → h ≡ h'
@@ -40,7 +30,7 @@ pub ticked : (c : Circuit) (b : Board) (state mem tape out : List ℕ) (p : Port
     → p.read ≡ word b.mem r.address
     → drop p.taken tape ≡ cond r.take (rest b.tape) b.tape
     → take p.sent out ≡ cond r.emit (b.out ++ (r.datum ∷ [])) b.out
-    → p.halted ≡ r.halted
+    → halt_code p.halted ≡ halt_code r.halted
     → standing state mem tape out p ≡ tick c b
 ticked c b state mem tape out p r z s e1 e2 e3 e4 e5 e6 =
     let q = pin_levels c b in

@@ -1,13 +1,14 @@
 -- What `spin` and `power_on` promise: the lent slices stand for the board of the circuit's definition.
-use Rattle.std.specs.Prelude.{◌≡◌, ℕ, ◌+◌, ◌<◌, ◌≤◌, ◌↔◌, List, [], length, take, drop}
+use Rattle.std.specs.Prelude.{◌≡◌, ℕ, ◌+◌, ◌<◌, ◌≤◌, ◌↔◌, List, [], length, take, drop, Ok, Err, Result}
 use Rattle.words.specs.Words.{All, memory_size}
 use Rattle.words.specs.Runs.{running}
+use Rattle.words.specs.Endings.{halt_code}
 use Rattle.circuit.specs.Circuit.{Whole, Board, ticks, power_on, input_signals}
 use Rattle.circuit.specs.Sheet.{drawn, levels, sheet_size}
-use Rattle.board.specs.declared.Spun.{Spun}
-use Rattle.board.specs.declared.Spun.TheVariants.{Ran, BadSheet, NoOut, FewWork}
-use Rattle.board.specs.declared.start.Power.{Power}
-use Rattle.board.specs.declared.start.Power.TheVariants.{On, Refused}
+use Rattle.board.specs.declared.cycle.Port.{Port}
+use Rattle.board.specs.declared.SpinError.{SpinError}
+use Rattle.board.specs.declared.SpinError.TheVariants.{BadSheet, NoOut, FewWork}
+use Rattle.board.specs.declared.start.NoPower.{NoPower}
 
 -- the board that flip-flop bytes, a memory, a word in hand and a tape stand for: nothing shown yet, not halted
 abbrev pub laid : List ℕ → List ℕ → ℕ → List ℕ → Board
@@ -72,42 +73,46 @@ pub record Stands (b : Board) (tape : List ℕ) (l : Left) : Type 0 where
   pub out_is : take l.sent l.out ≡ b.out
   pub halt_is : l.halted ≡ b.halted
 
--- *ran*: the board stands in the slices, and out words past those put out are as they were
-pub record RanSays (a : Asked) (before after : Lent) (read taken sent halted : ℕ) : Type 0 where
+-- what a run with the port p has left in the lent slices
+abbrev pub left : Lent → Port → Left
+left after p = record {
+  state = after.state;
+  mem = after.mem;
+  out = after.out;
+  read = p.read;
+  taken = p.taken;
+  sent = p.sent;
+  halted = halt_code p.halted;
+}
+
+-- it ran: the board stands in the slices, and out words past those put out are as they were
+pub record RanSays (a : Asked) (before after : Lent) (p : Port) : Type 0 where
   pub fits : SoundCall a before
-  pub stands : Stands (spun_board a before) a.tape (record {
-    state = after.state;
-    mem = after.mem;
-    out = after.out;
-    read = read;
-    taken = taken;
-    sent = sent;
-    halted = halted;
-  })
-  pub sent_there : sent ≤ length before.out
-  pub past_kept : drop sent after.out ≡ drop sent before.out
+  pub stands : Stands (spun_board a before) a.tape (left after p)
+  pub sent_there : p.sent ≤ length before.out
+  pub past_kept : drop p.sent after.out ≡ drop p.sent before.out
 
 -- What each answer says. After *no out* flip-flops, memory and out words may hold anything, and so may the work bytes
--- after *no out* and *ran*; a call that is refused leaves all as it was.
-abbrev pub SpunSays : Asked → Lent → Lent → Spun → Type 0
-SpunSays a before after (Ran read taken sent halted) = RanSays a before after read taken sent halted
-SpunSays a before after BadSheet = (SoundCall a before → ⊥) × (after ≡ before)
-SpunSays a before after NoOut = SoundCall a before × (length before.out < length (spun_board a before).out)
-SpunSays a before after FewWork = after ≡ before
+-- after *no out* and after a run; a call that is refused leaves all as it was.
+abbrev pub SpunSays : Asked → Lent → Lent → Result Port SpinError → Type 0
+SpunSays a before after (Ok p) = RanSays a before after p
+SpunSays a before after (Err BadSheet) = (SoundCall a before → ⊥) × (after ≡ before)
+SpunSays a before after (Err NoOut) = SoundCall a before × (length before.out < length (spun_board a before).out)
+SpunSays a before after (Err FewWork) = after ≡ before
 
 -- the promise of `spin`: there is too little work where it has no byte for each signal, and only there
-pub record SpunPost (a : Asked) (before after : Lent) (r : Spun) : Type 0 where
+pub record SpunPost (a : Asked) (before after : Lent) (r : Result Port SpinError) : Type 0 where
   pub says : SpunSays a before after r
-  pub few_work : (length before.work < input_signals + (a.flops + a.gates)) ↔ (r ≡ FewWork)
+  pub few_work : (length before.work < input_signals + (a.flops + a.gates)) ↔ (r ≡ Err FewWork)
 
 -- the sheet holds values at power on for the flip-flop bytes
 abbrev pub HasPower : List ℕ → ℕ → List ℕ → Type 0
 HasPower sheet f state = (f ≤ length sheet) × (length state ≡ f)
 
 -- the promise of `power_on`: laid out with any memory and tape, and no word in hand, the bytes are the board at power on
-abbrev pub PowerPost : List ℕ → ℕ → List ℕ → List ℕ → Power → Type 0
-PowerPost sheet f before after On =
+abbrev pub PowerPost : List ℕ → ℕ → List ℕ → List ℕ → Result Unit NoPower → Type 0
+PowerPost sheet f before after (Ok _) =
     HasPower sheet f before
     × All (λ x. x < 2) after
     × ((k : ℕ) (mem tape : List ℕ) → laid after mem 0 tape ≡ power_on (drawn f k sheet) mem tape)
-PowerPost sheet f before after Refused = (HasPower sheet f before → ⊥) × (after ≡ before)
+PowerPost sheet f before after (Err _) = (HasPower sheet f before → ⊥) × (after ≡ before)

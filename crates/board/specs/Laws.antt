@@ -1,10 +1,10 @@
 -- Laws of a run that a caller of `spin` builds on: pieces of a run join, a halted board stays, and a cycle puts out at
 -- most one word.
-use Rattle.std.specs.Prelude.{◌≡◌, ℕ, ◌+◌, ◌<◌, ◌≤◌, List, [], ◌++◌, length, take, drop}
+use Rattle.std.specs.Prelude.{◌≡◌, ℕ, ◌+◌, ◌<◌, ◌≤◌, List, [], ◌++◌, length, take, drop, Err}
 use Rattle.words.specs.Runs.{running}
 use Rattle.circuit.specs.Circuit.{Circuit, Board, ticks}
 use Rattle.board.specs.Board.{laid, Left, Stands, Asked, Lent, SpunPost}
-use Rattle.board.specs.declared.Spun.TheVariants.{NoOut}
+use Rattle.board.specs.declared.SpinError.TheVariants.{NoOut}
 
 -- where a piece of a run ended, as the next piece begins: flip-flops, memory, the word in hand and the rest of the tape
 -- are handed on
@@ -69,4 +69,4 @@ OneWordACycle = (c : Circuit) (b : Board) (n : ℕ) → length (ticks n c b).out
 
 -- so with room for as many words as cycles the answer is never *no out*.
 abbrev pub RoomSuffices : Type 0
-RoomSuffices = (a : Asked) (before after : Lent) → a.cycles ≤ length before.out → SpunPost a before after NoOut → ⊥
+RoomSuffices = (a : Asked) (before after : Lent) → a.cycles ≤ length before.out → SpunPost a before after (Err NoOut) → ⊥

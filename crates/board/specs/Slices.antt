@@ -1,6 +1,7 @@
 -- What the functions below the calls say of the lent slices: signals as bytes, a circuit's parts as numbers, one cycle.
-use Rattle.std.specs.Prelude.{◌≡◌, ℕ, ◌+◌, ◌-◌, ◌*◌, ◌^◌, ◌<◌, ◌≤◌, Bool, true, false, cond, List, [], ◌∷◌, ◌++◌, map, length, take, drop, Some, None, Option, bit_and, bit_xor, slice_index}
+use Rattle.std.specs.Prelude.{◌≡◌, ℕ, ◌+◌, ◌-◌, ◌*◌, ◌^◌, ◌<◌, ◌≤◌, Bool, true, false, cond, List, [], ◌∷◌, ◌++◌, map, length, take, drop, Some, None, Option}
 use Rattle.words.specs.Words.{bit, value, bit_at}
+use Rattle.words.specs.Endings.{halt_code}
 use Rattle.circuit.specs.Circuit.{Circuit, Board, inputs, settle, SoundGates, AllBelow, address, datum, input_signals, pin_count, store_pin, emit_pin, take_pin, halt_pins}
 use Rattle.circuit.specs.Sheet.{pairs, levels, sheet_size}
 use Rattle.board.specs.declared.pins.Pins.{Pins}
@@ -29,10 +30,6 @@ Counted n (Some r) = r ≡ n
 abbrev pub on_signals : List ℕ → List ℕ → List Bool
 on_signals work numbers = map (bit_at (levels work)) numbers
 
--- the gate whose two signals stand at a place of the wires, as bytes
-abbrev pub gate_byte : List ℕ → ℕ → List ℕ → ℕ
-gate_byte wires place work = bit_xor (bit_and (slice_index work (slice_index wires place)) (slice_index work (slice_index wires (place + 1)))) 1
-
 -- all levels of a cycle, with the word handed over, the word ahead on the tape and the flip-flop bytes
 abbrev pub cycle_levels : List ℕ → ℕ → ℕ → List ℕ → List Bool
 cycle_levels wires read ahead state = settle (pairs wires) (inputs read ahead (levels state))
@@ -44,10 +41,18 @@ pub record SoundSheet (sheet : List ℕ) (f k : ℕ) : Type 0 where
   pub next : AllBelow (take f (drop (f + 2 * k) sheet)) (input_signals + (f + k))
   pub pins : AllBelow (take pin_count (drop (2 * f + 2 * k) sheet)) (input_signals + (f + k))
 
+-- the parts that a sound sheet of f flip-flops and k gates is cut into, n signals in all
+pub record CutFrom (sheet : List ℕ) (f k : ℕ) (wires next pins : List ℕ) (n : ℕ) : Type 0 where
+  pub sound : SoundSheet sheet f k
+  pub wires_is : wires ≡ take (2 * k) (drop f sheet)
+  pub next_is : next ≡ take f (drop (f + 2 * k) sheet)
+  pub pins_is : pins ≡ take pin_count (drop (2 * f + 2 * k) sheet)
+  pub signals_is : n ≡ input_signals + (f + k)
+
 -- A circuit cut into its parts: the signals of the gates, two for each, the next signals, the pins' signals. Its values
 -- at power on do not matter any more.
-abbrev pub parts : List ℕ → List ℕ → List ℕ → Circuit
-parts wires next pins = record { flops = []; gates = pairs wires; next = next; pins = pins }
+abbrev pub circuit_of : List ℕ → List ℕ → List ℕ → Circuit
+circuit_of wires next pins = record { flops = []; gates = pairs wires; next = next; pins = pins }
 
 -- the parts are sound for f flip-flops and n signals in all
 pub record SoundParts (wires next pins : List ℕ) (f n : ℕ) : Type 0 where
@@ -66,7 +71,7 @@ pub record Shown (p : List Bool) (r : Pins) : Type 0 where
   pub store_is : r.store ≡ bit_at p store_pin
   pub emit_is : r.emit ≡ bit_at p emit_pin
   pub take_is : r.take ≡ bit_at p take_pin
-  pub halted_is : r.halted ≡ value (drop halt_pins p)
+  pub halted_is : halt_code r.halted ≡ value (drop halt_pins p)
 
 -- the board that stands in the lent slices
 abbrev pub standing : List ℕ → List ℕ → List ℕ → List ℕ → Port → Board
@@ -76,7 +81,7 @@ standing state mem tape out p = record {
   read = p.read;
   tape = drop p.taken tape;
   out = take p.sent out;
-  halted = p.halted;
+  halted = halt_code p.halted;
 }
 
 -- the places on the tape and in the out words are there, and out words past the place are as they were

@@ -4,27 +4,30 @@ ghost use Rattle.words.specs.Words.{bit_at, word, put, front, rest, memory_size}
 ghost use Rattle.words.specs.Runs.{running};
 ghost use Rattle.circuit.specs.Circuit.{tick, ticks};
 ghost use Rattle.board.specs.Board.{laid};
-ghost use Rattle.board.specs.Slices.{bytes, Clean, cycle_levels, Shown, parts, SoundParts, standing, Went, Emitted};
+ghost use Rattle.board.specs.Slices.{bytes, Clean, cycle_levels, Shown, circuit_of, standing, Went, Emitted};
 
+use crate::lines::Lines;
+use crate::parts::Parts;
 use crate::pins::{Pins, read_pins};
 use crate::sheet::INPUT_SIGNALS;
 use crate::signals::{latch, lay_inputs, settle_gates};
+use words::ending::Ending;
 
 // Where a run stands besides its slices: the word that memory hands over next, how many words of the tape were taken,
-// how many were put out, and how the board halted.
-#[derive(Clone, Copy)]
+// how many were put out, and how the board halted, if it has.
+#[derive(Clone, Copy, PartialEq, Eq, Debug)]
 pub struct Port {
     pub read: u16,
     pub taken: usize,
     pub sent: usize,
-    pub halted: u16,
+    pub halted: Option<Ending>,
 }
 
 // The tape's next word, 0 at its end.
 fn front_word(tape: &[u16], taken: usize) -> u16
     ensures { result ≡ front (drop taken tape.now) }
 {
-    if taken < tape.len() { tape[taken] } else { 0 }
+    tape.get(taken).copied().unwrap_or(0)
 }
 
 // The tape's place after a cycle: one on where `take` is high, but not past the end.
@@ -41,6 +44,9 @@ fn move_tape(tape: &[u16], taken: usize, take: bool) -> usize
 }
 
 // Memory's part of a cycle: the word that stood at the address is handed over, and then `store` puts the datum there.
+// That there are 65,536 words is asked for here, in `one_cycle` and in `run`: with `&mut [u16; 65536]` for the slice these
+// three prove without it, but `spin`, which makes the array of a slice, then wants a second function of as many parameters
+// (tried).
 fn access(mem: &mut [u16], address: u16, datum: u16, store: bool) -> u16
     requires { length mem.old ≡ memory_size }
     ensures read { result ≡ word mem.old address }
@@ -71,33 +77,34 @@ fn put_out(out: &mut [u16], sent: usize, datum: u16, emit: bool) -> Option<usize
 
 // The circuit's part of a cycle, with the word handed over and the word ahead on the tape: what the pins show once the
 // gates have settled. The flip-flops then hold their next levels.
-fn evaluate(
-    wires: &[u32],
-    next: &[u32],
-    pins: &[u32],
-    state: &mut [u8],
-    read: u16,
-    ahead: u16,
-    work: &mut [u8],
-) -> Pins
-    requires sound { SoundParts wires.now next.now pins.now (length state.old) (length work.old) }
+fn evaluate(parts: Parts, state: &mut [u8], read: u16, ahead: u16, work: &mut [u8]) -> Pins
+    requires flops { length state.old ≡ length parts.next.now }
+    requires signals { length work.old ≡ parts.signals }
     requires clean { Clean state.old }
-    ensures shown { Shown (map (bit_at (cycle_levels wires.now read ahead state.old)) pins.now) result }
-    ensures next { state.new ≡ bytes (map (bit_at (cycle_levels wires.now read ahead state.old)) next.now) }
+    ensures shown { Shown (map (bit_at (cycle_levels parts.entry.wires.now read ahead state.old)) parts.entry.pins.now) result }
+    ensures next { state.new ≡ bytes (map (bit_at (cycle_levels parts.entry.wires.now read ahead state.old)) parts.entry.next.now) }
 {
     let base = INPUT_SIGNALS + state.len();
     lay_inputs(work, read, ahead, state);
-    settle_gates(wires, base, work);
-    let shown = read_pins(work, pins);
-    latch(work, next, state);
+    settle_gates(parts.wires, base, work);
+    let pins = Lines {
+        levels: work,
+        signals: parts.pins,
+    };
+    let next = Lines {
+        levels: work,
+        signals: parts.next,
+    };
+    let shown = read_pins(pins);
+    latch(next, state);
     shown
 }
 
-// One cycle of a board that has not halted, or none where there is no room for the word that it puts out.
+// One cycle of a board that has not halted, or none where there is no room for the word that it puts out. The lent slices
+// stay parameters, here and in `run`, and with them what is asked of each: of each slice in a struct the contracts would
+// also have to say that it is still the same one, as long.
 fn one_cycle(
-    wires: &[u32],
-    next: &[u32],
-    pins: &[u32],
+    parts: Parts,
     state: &mut [u8],
     mem: &mut [u16],
     tape: &[u16],
@@ -105,34 +112,31 @@ fn one_cycle(
     work: &mut [u8],
     port: Port,
 ) -> Option<Port>
-    requires sound { SoundParts wires.now next.now pins.now (length state.old) (length work.old) }
+    requires flops { length state.old ≡ length parts.next.now }
+    requires signals { length work.old ≡ parts.signals }
     requires clean { Clean state.old }
     requires memory { length mem.old ≡ memory_size }
     requires taken { port.taken ≤ length tape.now }
     requires sent { port.sent ≤ length out.old }
-    requires going { port.halted ≡ running }
-    ensures { Went (tick (parts wires.now next.now pins.now) (standing state.old mem.old tape.now out.old port)) state.new mem.new tape.now out.old out.new result }
+    requires going { port.halted ≡ None }
+    ensures { Went (tick (circuit_of parts.entry.wires.now parts.entry.next.now parts.entry.pins.now) (standing state.old mem.old tape.now out.old port)) state.new mem.new tape.now out.old out.new result }
 {
     let ahead = front_word(tape, port.taken);
-    let shown = evaluate(wires, next, pins, state, port.read, ahead, work);
+    let shown = evaluate(parts, state, port.read, ahead, work);
     let read = access(mem, shown.address, shown.datum, shown.store);
     let taken = move_tape(tape, port.taken, shown.take);
-    match put_out(out, port.sent, shown.datum, shown.emit) {
-        Some(sent) => Some(Port {
-            read,
-            taken,
-            sent,
-            halted: shown.halted,
-        }),
-        None => None,
-    }
+    let sent = put_out(out, port.sent, shown.datum, shown.emit)?;
+    Some(Port {
+        read,
+        taken,
+        sent,
+        halted: shown.halted,
+    })
 }
 
 // So many cycles, fewer where the board halts.
 pub fn run(
-    wires: &[u32],
-    next: &[u32],
-    pins: &[u32],
+    parts: Parts,
     state: &mut [u8],
     mem: &mut [u16],
     read: u16,
@@ -141,24 +145,23 @@ pub fn run(
     cycles: u64,
     work: &mut [u8],
 ) -> Option<Port>
-    requires sound { SoundParts wires.now next.now pins.now (length state.old) (length work.old) }
+    requires flops { length state.old ≡ length parts.next.now }
+    requires signals { length work.old ≡ parts.signals }
     requires memory { length mem.old ≡ memory_size }
     requires clean { Clean state.old }
-    ensures { Went (ticks cycles (parts wires.now next.now pins.now) (laid state.old mem.old read tape.now)) state.new mem.new tape.now out.old out.new result }
+    ensures { Went (ticks cycles (circuit_of parts.entry.wires.now parts.entry.next.now parts.entry.pins.now) (laid state.old mem.old read tape.now)) state.new mem.new tape.now out.old out.new result }
 {
     let mut port = Port {
         read,
         taken: 0,
         sent: 0,
-        halted: 0,
+        halted: None,
     };
-    let mut left = cycles;
-    while left > 0 && port.halted == 0 {
-        match one_cycle(wires, next, pins, state, mem, tape, out, work, port) {
-            Some(after) => port = after,
-            None => return None,
+    for _done in 0..cycles {
+        if port.halted.is_some() {
+            return Some(port);
         }
-        left -= 1;
+        port = one_cycle(parts, state, mem, tape, out, work, port)?;
     }
     Some(port)
 }

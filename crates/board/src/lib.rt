@@ -5,31 +5,38 @@ ghost use Rattle.board.specs.Board.{asked, lent, SpunPost};
 
 mod cycle;
 mod laws;
+mod lines;
+mod parts;
 mod pins;
 mod sheet;
 mod signals;
 mod start;
 
+pub use cycle::Port;
 use cycle::run;
 pub use laws::{
     halted_spin_stays, halted_stays, one_word_a_cycle, pieces_join, room_suffices, spins_join,
 };
-use sheet::{MEMORY_SIZE, PIN_COUNT, sheet_sound, signal_count};
+use sheet::{MEMORY_SIZE, cut, signal_count};
 use signals::make_levels;
-pub use start::{Power, power_on};
+pub use start::{NoPower, power_on};
+use thiserror::Error;
 
-// How some cycles went: the word that memory hands over next, how many words of the tape were taken, how many were put
-// out, and how the board halted.
-#[derive(Clone, Copy)]
-pub enum Spun {
-    Ran(u16, usize, usize, u16),
+// Why a board does not come to its cycles: the sheet, the flip-flop bytes and the memory make no whole board; more words
+// are put out than there is room for; or there is no work byte for each signal.
+#[derive(Clone, Copy, PartialEq, Eq, Debug, Error)]
+pub enum SpinError {
+    #[error("no whole board")]
     BadSheet,
+    #[error("more words put out than there is room for")]
     NoOut,
+    #[error("no work byte for each signal")]
     FewWork,
 }
 
 // Spins the sheet's circuit for so many cycles, from the flip-flops, the memory, the word in hand and the tape that it is
-// lent. It leaves there what they are then, and the words put out at the front of the out words.
+// lent. It leaves there what they are then, and the words put out at the front of the out words. Each slice is a
+// parameter of its own, as the course lends them.
 pub fn spin(
     sheet: &[u32],
     flops: usize,
@@ -41,31 +48,20 @@ pub fn spin(
     out: &mut [u16],
     cycles: u64,
     work: &mut [u8],
-) -> Spun
+) -> Result<Port, SpinError>
     ensures { SpunPost (asked sheet.now flops gates read tape.now cycles) (lent state.old mem.old out.old work.old) (lent state.new mem.new out.new work.new) result }
 {
-    let Some(signals) = signal_count(flops, gates) else {
-        return Spun::FewWork;
-    };
+    let signals = signal_count(flops, gates).ok_or(SpinError::FewWork)?;
     if work.len() < signals {
-        return Spun::FewWork;
+        return Err(SpinError::FewWork);
     }
     if state.len() != flops || mem.len() != MEMORY_SIZE {
-        return Spun::BadSheet;
+        return Err(SpinError::BadSheet);
     }
-    if !sheet_sound(sheet, flops, gates) {
-        return Spun::BadSheet;
-    }
+    let parts = cut(sheet, flops, gates).ok_or(SpinError::BadSheet)?;
     make_levels(state);
-    let wires_end = flops + 2 * gates;
-    let next_end = wires_end + flops;
-    let wires = &sheet[flops..wires_end];
-    let next = &sheet[wires_end..next_end];
-    let pins = &sheet[next_end..next_end + PIN_COUNT];
-    match run(
-        wires,
-        next,
-        pins,
+    run(
+        parts,
         state,
         mem,
         read,
@@ -73,8 +69,6 @@ pub fn spin(
         out,
         cycles,
         &mut work[0..signals],
-    ) {
-        Some(p) => Spun::Ran(p.read, p.taken, p.sent, p.halted),
-        None => Spun::NoOut,
-    }
+    )
+    .ok_or(SpinError::NoOut)
 }

@@ -1,8 +1,10 @@
 // The sheet that holds a circuit: the numbers of its layout, and whether it is sound.
-ghost use Rattle.std.specs.Prelude.{◌≡◌, ◌+◌, ◌*◌, ◌^◌, ◌<◌, length};
+ghost use Rattle.std.specs.Prelude.{◌≡◌, ◌+◌, ◌*◌, ◌/◌, ◌^◌, ◌<◌, length, MatchOption};
 ghost use Rattle.circuit.specs.Circuit.{SoundGates, AllBelow, input_signals};
 ghost use Rattle.circuit.specs.Sheet.{pairs};
-ghost use Rattle.board.specs.Slices.{Tells, Counted, SoundSheet};
+ghost use Rattle.board.specs.Slices.{Tells, Counted, SoundSheet, CutFrom};
+
+use crate::parts::Parts;
 
 pub const INPUT_SIGNALS: usize = 34;
 
@@ -19,13 +21,13 @@ pub fn signal_count(flops: usize, gates: usize) -> Option<usize>
 }
 
 // Whether each gate is fed by signals before it, of which there are `base` before the first.
-fn gates_sound(wires: &[u32], gates: usize, base: usize) -> bool
-    requires all { length wires.now ≡ 2 * gates }
-    requires room { base + gates < 2 ^ 64 }
+fn gates_sound(wires: &[u32], base: usize) -> bool
+    requires { base + length wires.now / 2 < 2 ^ 64 }
     ensures { Tells (SoundGates (pairs wires.now) base) result }
 {
-    for i in 0..gates {
-        if wires[2 * i] as usize >= base + i || wires[2 * i + 1] as usize >= base + i {
+    let (gates, _) = wires.as_chunks::<2>();
+    for (i, [one, other]) in gates.iter().enumerate() {
+        if *one as usize >= base + i || *other as usize >= base + i {
             return false;
         }
     }
@@ -36,30 +38,34 @@ fn gates_sound(wires: &[u32], gates: usize, base: usize) -> bool
 fn all_below(numbers: &[u32], signals: usize) -> bool
     ensures { Tells (AllBelow numbers.now signals) result }
 {
-    for x in numbers {
-        if *x as usize >= signals {
-            return false;
-        }
-    }
-    true
+    numbers.iter().all(|x| (*x as usize) < signals)
 }
 
-// Whether the sheet holds a sound circuit of so many flip-flops and gates.
-pub fn sheet_sound(sheet: &[u32], flops: usize, gates: usize) -> bool
+// The parts of the circuit of so many flip-flops and gates that the sheet holds, if it holds a sound one.
+pub fn cut(sheet: &[u32], flops: usize, gates: usize) -> Option<Parts>
     requires { input_signals + (flops + gates) < 2 ^ 64 }
-    ensures { Tells (SoundSheet sheet.now flops gates) result }
+    ensures { MatchOption result (SoundSheet sheet.now flops gates → ⊥) (λ p. CutFrom sheet.now flops gates p.wires.now p.next.now p.pins.now p.signals) }
 {
     let both = flops + gates;
     if sheet.len() < PIN_COUNT || (sheet.len() - PIN_COUNT) / 2 < both {
-        return false;
+        return None;
     }
+    let signals = INPUT_SIGNALS + both;
     let wires_end = flops + 2 * gates;
     let next_end = wires_end + flops;
-    if !gates_sound(&sheet[flops..wires_end], gates, INPUT_SIGNALS + flops) {
-        return false;
+    let wires = &sheet[flops..wires_end];
+    let next = &sheet[wires_end..next_end];
+    let pins = &sheet[next_end..next_end + PIN_COUNT];
+    if !gates_sound(wires, INPUT_SIGNALS + flops)
+        || !all_below(next, signals)
+        || !all_below(pins, signals)
+    {
+        return None;
     }
-    if !all_below(&sheet[wires_end..next_end], INPUT_SIGNALS + both) {
-        return false;
-    }
-    all_below(&sheet[next_end..next_end + PIN_COUNT], INPUT_SIGNALS + both)
+    Some(Parts {
+        wires,
+        next,
+        pins,
+        signals,
+    })
 }

@@ -1,10 +1,12 @@
 -- The answers of `spin` as a number, and the port that goes with *ran*.
-use Rattle.std.specs.Prelude.{◌≡◌, List, [], ◌∷◌, ℕ}
-use Rattle.board.specs.declared.Spun.{Spun}
-use Rattle.board.specs.declared.Spun.TheVariants.{Ran, BadSheet, NoOut, FewWork}
+use Rattle.std.specs.Prelude.{◌≡◌, List, [], ◌∷◌, ℕ, Ok, Err, Result}
+use Rattle.words.specs.Endings.{halt_code}
+use Rattle.board.specs.declared.cycle.Port.{Port}
+use Rattle.board.specs.declared.SpinError.{SpinError}
+use Rattle.board.specs.declared.SpinError.TheVariants.{BadSheet, NoOut, FewWork}
 
-abbrev pub Coded : Spun → ℕ → List ℕ → List ℕ → Type 0
-Coded (Ran read taken sent halted) code before after = (code ≡ 0) × (after ≡ read ∷ (taken ∷ (sent ∷ (halted ∷ []))))
-Coded BadSheet code before after = (code ≡ 1) × (after ≡ before)
-Coded NoOut code before after = (code ≡ 2) × (after ≡ before)
-Coded FewWork code before after = (code ≡ 3) × (after ≡ before)
+abbrev pub Coded : Result Port SpinError → ℕ → List ℕ → List ℕ → Type 0
+Coded (Ok p) code before after = (code ≡ 0) × (after ≡ p.read ∷ (p.taken ∷ (p.sent ∷ (halt_code p.halted ∷ []))))
+Coded (Err BadSheet) code before after = (code ≡ 1) × (after ≡ before)
+Coded (Err NoOut) code before after = (code ≡ 2) × (after ≡ before)
+Coded (Err FewWork) code before after = (code ≡ 3) × (after ≡ before)

@@ -1,14 +1,17 @@
 // `spin` for callers in C.
 #![tactic(auto)]
 
+ghost use Rattle.std.specs.Prelude.{Result};
 ghost use Rattle.board.specs.Board.{asked, lent, SpunPost};
-ghost use Rattle.board.specs.declared.Spun.{Spun as Answer};
+ghost use Rattle.board.specs.declared.SpinError.{SpinError as Refusal};
+ghost use Rattle.board.specs.declared.cycle.Port.{Port as Came};
 ghost use Rattle.board_c.specs.Coded.{Coded};
 
-use board::{Spun, spin};
+use board::{Port, SpinError, spin};
 
-// The answer as a number: 0 ran, 1 bad sheet, 2 no out, 3 few work. After *ran* the port has the word that memory hands
-// over next, how many words of the tape were taken, how many were put out, and how the board halted.
+// The answer as a number, since C has no enum with data: 0 ran, 1 bad sheet, 2 no out, 3 few work. After *ran* the port has the
+// word that memory hands over next, how many words of the tape were taken, how many were put out, and how the board halted.
+// Each slice is lent by itself, as C lends it.
 #[unsafe(no_mangle)]
 pub extern "C" fn spin_c(
     sheet: &[u32],
@@ -23,17 +26,25 @@ pub extern "C" fn spin_c(
     work: &mut [u8],
     port: &mut [u64; 4],
 ) -> u32
-    ensures { (s : Answer) × SpunPost (asked sheet.now flops gates read tape.now cycles) (lent state.old mem.old out.old work.old) (lent state.new mem.new out.new work.new) s × Coded s result port.old port.new }
+    ensures { (s : Result Came Refusal) × SpunPost (asked sheet.now flops gates read tape.now cycles) (lent state.old mem.old out.old work.old) (lent state.new mem.new out.new work.new) s × Coded s result port.old port.new }
 {
     match spin(
         sheet, flops, gates, state, mem, read, tape, out, cycles, work,
     ) {
-        Spun::Ran(word, taken, sent, halted) => {
-            *port = [word as u64, taken as u64, sent as u64, halted as u64];
+        Ok(
+            Port {
+                read,
+                taken,
+                sent,
+                halted,
+            },
+        ) => {
+            let code = halted.map_or(0, u16::from);
+            *port = [read as u64, taken as u64, sent as u64, code as u64];
             0
         }
-        Spun::BadSheet => 1,
-        Spun::NoOut => 2,
-        Spun::FewWork => 3,
+        Err(SpinError::BadSheet) => 1,
+        Err(SpinError::NoOut) => 2,
+        Err(SpinError::FewWork) => 3,
     }
 }

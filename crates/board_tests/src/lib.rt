@@ -3,42 +3,8 @@
 
 #[cfg(test)]
 mod tests {
-    use board::{Power, Spun, power_on, spin};
-
-    fn ran(answer: Spun, read: u16, taken: usize, sent: usize, halted: u16) -> bool {
-        match answer {
-            Spun::Ran(a, b, c, d) => a == read && b == taken && c == sent && d == halted,
-            _ => false,
-        }
-    }
-
-    fn is_bad_sheet(answer: Spun) -> bool {
-        match answer {
-            Spun::BadSheet => true,
-            _ => false,
-        }
-    }
-
-    fn is_no_out(answer: Spun) -> bool {
-        match answer {
-            Spun::NoOut => true,
-            _ => false,
-        }
-    }
-
-    fn is_few_work(answer: Spun) -> bool {
-        match answer {
-            Spun::FewWork => true,
-            _ => false,
-        }
-    }
-
-    fn is_on(answer: Power) -> bool {
-        match answer {
-            Power::On => true,
-            Power::Refused => false,
-        }
-    }
+    use board::{NoPower, Port, SpinError, power_on, spin};
+    use words::ending::Ending;
 
     // No flip-flops and no gates, all pins low but for the lowest halt pin: done in the first cycle, and it stays so.
     #[test]
@@ -50,11 +16,35 @@ mod tests {
         let out = &mut [0u16; 0];
         let work = &mut [0u8; 34];
         let none = spin(&sheet, 0, 0, state, mem, 5, &[], out, 0, work);
-        assert!(rt; ran(none, 5, 0, 0, 0));
+        assert_eq!(rt;
+            none,
+            Ok(Port {
+                read: 5,
+                taken: 0,
+                sent: 0,
+                halted: None
+            })
+        );
         let once = spin(&sheet, 0, 0, state, mem, 5, &[], out, 1, work);
-        assert!(rt; ran(once, 7, 0, 0, 1));
+        assert_eq!(rt;
+            once,
+            Ok(Port {
+                read: 7,
+                taken: 0,
+                sent: 0,
+                halted: Some(Ending::Done)
+            })
+        );
         let often = spin(&sheet, 0, 0, state, mem, 5, &[], out, 999, work);
-        assert!(rt; ran(often, 7, 0, 0, 1));
+        assert_eq!(rt;
+            often,
+            Ok(Port {
+                read: 7,
+                taken: 0,
+                sent: 0,
+                halted: Some(Ending::Done)
+            })
+        );
     }
 
     // Each cycle takes a word of the tape and puts it out: past the tape's end that is 0, and nothing is taken.
@@ -72,10 +62,18 @@ mod tests {
         let out = &mut [3u16; 5];
         let work = &mut [0u8; 40];
         let four = spin(&sheet, 0, 0, state, mem, 0, &tape, out, 4, work);
-        assert!(rt; ran(four, 0, 2, 4, 0));
-        assert!(rt; out[0] == 9 && out[1] == 11 && out[2] == 0 && out[3] == 0 && out[4] == 3);
+        assert_eq!(rt;
+            four,
+            Ok(Port {
+                read: 0,
+                taken: 2,
+                sent: 4,
+                halted: None
+            })
+        );
+        assert_eq!(rt; *out, [9, 11, 0, 0, 3]);
         let six = spin(&sheet, 0, 0, state, mem, 0, &tape, out, 6, work);
-        assert!(rt; is_no_out(six));
+        assert_eq!(rt; six, Err(SpinError::NoOut));
     }
 
     // Two flip-flops that change places, and a store at place 0 in each cycle: the word handed over is the one before it.
@@ -92,12 +90,42 @@ mod tests {
         let out = &mut [0u16; 0];
         let work = &mut [0u8; 36];
         let none = spin(&sheet, 2, 0, state, mem, 6, &[], out, 0, work);
-        assert!(rt; ran(none, 6, 0, 0, 0) && state[0] == 1 && state[1] == 1);
-        assert!(rt; is_on(power_on(&sheet, 2, state)) && state[0] == 1 && state[1] == 0);
+        assert_eq!(rt;
+            none,
+            Ok(Port {
+                read: 6,
+                taken: 0,
+                sent: 0,
+                halted: None
+            })
+        );
+        assert_eq!(rt; *state, [1, 1]);
+        assert_eq!(rt; power_on(&sheet, 2, state), Ok(()));
+        assert_eq!(rt; *state, [1, 0]);
         let first = spin(&sheet, 2, 0, state, mem, 0, &[], out, 1, work);
-        assert!(rt; ran(first, 40, 0, 0, 0) && state[0] == 0 && state[1] == 1 && mem[0] == 1);
+        assert_eq!(rt;
+            first,
+            Ok(Port {
+                read: 40,
+                taken: 0,
+                sent: 0,
+                halted: None
+            })
+        );
+        assert_eq!(rt; *state, [0, 1]);
+        assert_eq!(rt; mem[0], 1);
         let second = spin(&sheet, 2, 0, state, mem, 40, &[], out, 1, work);
-        assert!(rt; ran(second, 1, 0, 0, 0) && state[0] == 1 && state[1] == 0 && mem[0] == 0);
+        assert_eq!(rt;
+            second,
+            Ok(Port {
+                read: 1,
+                taken: 0,
+                sent: 0,
+                halted: None
+            })
+        );
+        assert_eq!(rt; *state, [1, 0]);
+        assert_eq!(rt; mem[0], 0);
     }
 
     // One flip-flop and one gate: too little work, and more gates than can be counted.
@@ -110,10 +138,12 @@ mod tests {
         let out = &mut [0u16; 9];
         let work = &mut [8u8; 35];
         let few = spin(&sheet, 1, 1, state, mem, 0, &[], out, 1, work);
-        assert!(rt; is_few_work(few));
+        assert_eq!(rt; few, Err(SpinError::FewWork));
         let fewer = spin(&sheet, 1, many, state, mem, 0, &[], out, 1, work);
-        assert!(rt; is_few_work(fewer));
-        assert!(rt; state[0] == 9 && work[0] == 8 && work[34] == 8);
+        assert_eq!(rt; fewer, Err(SpinError::FewWork));
+        assert_eq!(rt; *state, [9]);
+        assert_eq!(rt; work[0], 8);
+        assert_eq!(rt; work[34], 8);
     }
 
     // One flip-flop and one gate that feeds it: a sheet that is too short, a gate that is fed by itself, a next signal
@@ -127,17 +157,29 @@ mod tests {
         let out = &mut [0u16; 9];
         let work = &mut [8u8; 36];
         let cut = spin(&short, 1, 1, state, mem, 0, &[], out, 1, work);
-        assert!(rt; is_bad_sheet(cut));
+        assert_eq!(rt; cut, Err(SpinError::BadSheet));
         sheet[2] = 35;
         let fed = spin(&sheet, 1, 1, state, mem, 0, &[], out, 1, work);
-        assert!(rt; is_bad_sheet(fed));
+        assert_eq!(rt; fed, Err(SpinError::BadSheet));
         sheet[2] = 34;
         sheet[3] = 36;
         let past = spin(&sheet, 1, 1, state, mem, 0, &[], out, 1, work);
-        assert!(rt; is_bad_sheet(past) && state[0] == 9 && work[0] == 8 && work[35] == 8);
+        assert_eq!(rt; past, Err(SpinError::BadSheet));
+        assert_eq!(rt; *state, [9]);
+        assert_eq!(rt; work[0], 8);
+        assert_eq!(rt; work[35], 8);
         sheet[3] = 35;
         let sound = spin(&sheet, 1, 1, state, mem, 0, &[], out, 1, work);
-        assert!(rt; ran(sound, 0, 0, 1, 3) && state[0] == 0);
+        assert_eq!(rt;
+            sound,
+            Ok(Port {
+                read: 0,
+                taken: 0,
+                sent: 1,
+                halted: Some(Ending::Full)
+            })
+        );
+        assert_eq!(rt; *state, [0]);
     }
 
     // Too many flip-flop bytes, too little memory, no values at power on.
@@ -151,11 +193,12 @@ mod tests {
         let out = &mut [0u16; 9];
         let work = &mut [8u8; 36];
         let bytes = spin(&sheet, 1, 0, two, mem, 0, &[], out, 1, work);
-        assert!(rt; is_bad_sheet(bytes));
+        assert_eq!(rt; bytes, Err(SpinError::BadSheet));
         let words = spin(&sheet, 1, 0, one, little, 0, &[], out, 1, work);
-        assert!(rt; is_bad_sheet(words));
-        assert!(rt; !is_on(power_on(&sheet, 1, two)));
-        assert!(rt; !is_on(power_on(&[], 1, one)));
-        assert!(rt; one[0] == 9 && two[0] == 9 && two[1] == 9);
+        assert_eq!(rt; words, Err(SpinError::BadSheet));
+        assert_eq!(rt; power_on(&sheet, 1, two), Err(NoPower));
+        assert_eq!(rt; power_on(&[], 1, one), Err(NoPower));
+        assert_eq!(rt; *one, [9]);
+        assert_eq!(rt; *two, [9, 9]);
     }
 }

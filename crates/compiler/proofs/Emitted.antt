@@ -66,25 +66,23 @@ finish_emits g cells places d at m r m' t h w = record {
   words = λ rest. ap (λ (is : List Instruction). put_all m at (is ++ rest)) (sym (block_is g cells places d t h)) ∙ w.words rest;
 }
 
-module _ (nodes : List Node) (i cells : ℕ) (places : List ℕ) (at : ℕ) (m : List ℕ) where
-  -- Work without parts.
-  pub ends_nothing : (r : ℕ) → P.Nothing ≡ parts_of (node_at nodes i) → r ≡ past_last (node_at nodes i) at → EndsWork nodes i at r
-  ends_nothing r e h es p =
-      let q : PartsAt nodes i P.Nothing es = subst (λ (x : Parts). PartsAt nodes i x es) (sym e) p in
-      subst (λ (l : List Expr). r ≡ work_end (node_at nodes i) l at) (sym q) h
-
-  pub emits_nothing : (r : ℕ) (m' : List ℕ) → P.Nothing ≡ parts_of (node_at nodes i) → NodeFits (node_at nodes i) → Writes (last_block cells (λ f. word places f) (node_at nodes i)) at m r m' → EmitsWork nodes i cells places at m r m'
-  emits_nothing r m' e h w g t es p =
-      let q : PartsAt nodes i P.Nothing es = subst (λ (x : Parts). PartsAt nodes i x es) (sym e) p in
-      let d : Node = node_at nodes i in
-      subst (λ (l : List Expr). Emits (work_code g d l) (work_end d l at) at m r m') (sym q) (finish_emits g cells places d at m r m' t h w)
-
-  -- Work with one part.
+-- Where the code of work ends, from where that of its parts does.
+module _ (nodes : List Node) (i at : ℕ) where
   pub ends_one : (j x r : ℕ) → P.One j ≡ parts_of (node_at nodes i) → EndsWork nodes j at x → r ≡ past_last (node_at nodes i) x → EndsWork nodes i at r
   ends_one j x r e h w es p =
       let q : PartsAt nodes i (P.One j) es = subst (λ (z : Parts). PartsAt nodes i z es) (sym e) p in
       subst (λ (l : List Expr). r ≡ work_end (node_at nodes i) l at) (sym q.1) (w ∙ ap (past_last (node_at nodes i)) (expr_ended nodes j q.0 at x q.3 h))
 
+  pub ends_two : (j k x y z r : ℕ) → P.Two j k ≡ parts_of (node_at nodes i) → EndsWork nodes j at x → y ≡ past push x → EndsWork nodes k y z → r ≡ past_last (node_at nodes i) z → EndsWork nodes i at r
+  ends_two j k x y z r e h middle h' w es p =
+      let q : PartsAt nodes i (P.Two j k) es = subst (λ (s : Parts). PartsAt nodes i s es) (sym e) p in
+      let first = expr_ended nodes j q.0 at x q.5 h in
+      let second = expr_ended nodes k q.1 y z q.6 h' in
+      subst (λ (l : List Expr). r ≡ work_end (node_at nodes i) l at) (sym q.2) (w ∙ ap (past_last (node_at nodes i)) (second ∙ ap (end_of_expr q.1) (middle ∙ ap (past push) first)))
+
+-- The code itself.
+module _ (nodes : List Node) (i cells : ℕ) (places : List ℕ) (at : ℕ) (m : List ℕ) where
+  -- Work with one part.
   pub emits_one : (j x r : ℕ) (m₁ m' : List ℕ) → P.One j ≡ parts_of (node_at nodes i) → NodeFits (node_at nodes i) → EndsWork nodes j at x → EmitsWork nodes j cells places at m x m₁ →
       Writes (last_block cells (λ f. word places f) (node_at nodes i)) x m₁ r m' → EmitsWork nodes i cells places at m r m'
   emits_one j x r m₁ m' e h ends first w g t es p =
@@ -96,13 +94,6 @@ module _ (nodes : List Node) (i cells : ℕ) (places : List ℕ) (at : ℕ) (m :
       (record { ends = both.ends ∙ ap (past_last d) (expr_ended nodes j q.0 at x q.3 ends); words = both.words })
 
   -- Work with two parts.
-  pub ends_two : (j k x y z r : ℕ) → P.Two j k ≡ parts_of (node_at nodes i) → EndsWork nodes j at x → y ≡ past push x → EndsWork nodes k y z → r ≡ past_last (node_at nodes i) z → EndsWork nodes i at r
-  ends_two j k x y z r e h middle h' w es p =
-      let q : PartsAt nodes i (P.Two j k) es = subst (λ (s : Parts). PartsAt nodes i s es) (sym e) p in
-      let first = expr_ended nodes j q.0 at x q.5 h in
-      let second = expr_ended nodes k q.1 y z q.6 h' in
-      subst (λ (l : List Expr). r ≡ work_end (node_at nodes i) l at) (sym q.2) (w ∙ ap (past_last (node_at nodes i)) (second ∙ ap (end_of_expr q.1) (middle ∙ ap (past push) first)))
-
   pub emits_two : (j k x y z r : ℕ) (m₁ m₂ m₃ m' : List ℕ) → P.Two j k ≡ parts_of (node_at nodes i) → NodeFits (node_at nodes i) → EndsWork nodes i at r → EmitsWork nodes j cells places at m x m₁ →
       Writes push x m₁ y m₂ → EmitsWork nodes k cells places y m₂ z m₃ → Writes (last_block cells (λ f. word places f) (node_at nodes i)) z m₃ r m' → EmitsWork nodes i cells places at m r m'
   emits_two j k x y z r m₁ m₂ m₃ m' e h ends first middle second w g t es p =

@@ -1,17 +1,16 @@
 -- The code of a procedure: where its body begins; its frame's size is a word; its code from that of its body.
-use Rattle.std.proofs.Common.{◌≡◌, ℕ, ◌+◌, ◌≤◌, List, ◌++◌, sym, ap, ◌∙◌, subst, arith}
-use Rattle.language.specs.Language.{Stmt, skip, then, setloc, setglob, setcell, if, while, out, take, Proc, stmt_height, frame_words, frame_size}
-use Rattle.language.specs.Nodes.{StmtAt}
+use Rattle.std.proofs.Common.{◌≡◌, ℕ, ◌+◌, ◌<◌, ◌≤◌, List, ◌++◌, sym, ap, ◌∙◌, subst, arith}
+use Rattle.language.specs.Language.{Stmt, skip, then, setloc, setglob, setcell, if, while, out, take, Proc, stmt_height, frame_size}
 use Rattle.language.specs.declared.nodes.Node.{Node}
 use Rattle.language.specs.declared.nodes.Procedure.{Procedure}
-use Rattle.codegen.specs.Codegen.{push, end_of_expr, end_of_stmt, code_stmt, else_place, then_place, loop_place, check_room, make_frame, clear_words, leave_frame, body_place}
+use Rattle.codegen.specs.Codegen.{push, end_of_expr, end_of_stmt, code_stmt, else_place, then_place, loop_place, check_room, make_frame, clear_words, body_place}
 use Rattle.codegen.specs.Instructions.{Instruction, past}
 use Rattle.codegen.specs.Layout.{code_limit}
 use Rattle.codegen.proofs.Sizes.{past_is, length_clear, size_stmt}
 use Rattle.compiler.specs.Writing.{put_all, Writes}
 use Rattle.compiler.specs.Work.{StmtWorks}
 use Rattle.compiler.specs.Statements.{EndsStmt, EmitsStmt}
-use Rattle.compiler.specs.Procs.{ProcWorks, EndsProc, EmitsProc}
+use Rattle.compiler.specs.Procs.{ProcWorks, FrameOf, EndsProc, EmitsProc}
 use Rattle.compiler.specs.Frames.{room_test, frame_made, frame_left}
 use Rattle.compiler.specs.Sizes.{return_words, head_words}
 use Rattle.compiler.proofs.Writings.{emits_both}
@@ -36,35 +35,42 @@ body_place_is p at =
     omega (arith, past_is (clear_words 0 p.locals) made, length_clear 0 p.locals)
 
 -- what is known where a procedure's code is to stand
-pub record ProcFacts (nodes : List Node) (d : Procedure) (at : ℕ) (p : Proc) : Type 0 where
-  pub locals_is : d.locals ≡ p.locals
-  pub body_at : StmtAt nodes d.body p.body
-  pub body_is : at + head_words + d.locals ≡ body_place p at
+pub record ProcFacts (nodes : List Node) (d : Procedure) (at : ℕ) : Type 0 where
   pub body_works : StmtWorks nodes d.body (at + head_words + d.locals)
   pub few : d.locals ≤ 64
   pub begins : at + head_words + d.locals ≤ code_limit
-  pub end_room : past (leave_frame p) (end_of_stmt p.body (body_place p at)) ≤ code_limit
-  pub high : stmt_height p.body ≤ code_limit
+  pub room : (x : ℕ) → EndsStmt nodes d.body (at + head_words + d.locals) x → x + return_words ≤ code_limit
 
-pub proc_facts : (nodes : List Node) (d : Procedure) (at : ℕ) (w : ProcWorks nodes d at) → ProcFacts nodes d at w.proc
-proc_facts nodes d at w =
+pub proc_facts : {nodes : List Node} {d : Procedure} {at : ℕ} → ProcWorks nodes d at → ProcFacts nodes d at
+proc_facts {nodes} {d} {at} w =
     let p : Proc = w.proc in
     let same : d.locals ≡ p.locals = w.is.0 in
     let place = body_place_is p at in
     let body : at + head_words + d.locals ≡ body_place p at = omega arith in
     let room = w.room in
     let size = (size_stmt p.body (body_place p at)).1 in
-    let high = stmt_height_below p.body (body_place p at) in
     record {
-      locals_is = same;
-      body_at = w.is.1;
-      body_is = body;
       body_works = subst (λ (q : ℕ). StmtWorks nodes d.body q) (sym body) (stmt_works nodes d.body (body_place p at) p.body w.is.1 w.fits (omega arith));
       few = omega (arith, w.few);
       begins = omega arith;
-      end_room = room;
-      high = omega arith;
+      room = λ x h. let end = h p.body w.is.1 ∙ ap (end_of_stmt p.body) body in omega arith;
     }
+
+-- the size of its frame is a word
+pub small_frame : {nodes : List Node} {d : Procedure} {at : ℕ} (size : ℕ) → ProcWorks nodes d at → FrameOf nodes d size → size < 65536
+small_frame {d = d} {at = at} size w h =
+    let p : Proc = w.proc in
+    let few = w.few in
+    let room = w.room in
+    let high = stmt_height_below p.body (body_place p at) in
+    omega (arith, h p w.is)
+
+-- where the body begins, behind the test for room, the making of the frame and the clearing of locals
+pub body_begins : (locals at size p₁ p₂ p₃ : ℕ) → p₁ ≡ past (room_test size) at → p₂ ≡ past (frame_made locals) p₁ → p₃ ≡ past (clear_words 0 locals) p₂ → at + head_words + locals ≡ p₃
+body_begins locals at size p₁ p₂ p₃ test made cleared =
+    let count = past_is (clear_words 0 locals) p₂ in
+    let counted = length_clear 0 locals in
+    omega arith
 
 pub ends_proc : (nodes : List Node) (d : Procedure) (at x r : ℕ) → EndsStmt nodes d.body (at + head_words + d.locals) x → r ≡ x + return_words → EndsProc nodes d at r
 ends_proc nodes d at x r h e p is =
@@ -75,13 +81,12 @@ ends_proc nodes d at x r h e p is =
     omega arith
 
 module _ (nodes : List Node) (d : Procedure) (cells : ℕ) (places : List ℕ) (at : ℕ) (m : List ℕ) where
-  pub emits_proc : (high size p₁ p₂ p₃ p₄ r : ℕ) (m₁ m₂ m₃ m₄ m' : List ℕ) → ((s : Stmt) → StmtAt nodes d.body s → high ≡ stmt_height s) → size ≡ frame_words + (d.locals + high) → EndsProc nodes d at r →
+  pub emits_proc : (size p₁ p₂ p₃ p₄ r : ℕ) (m₁ m₂ m₃ m₄ m' : List ℕ) → FrameOf nodes d size → EndsProc nodes d at r →
       Writes (room_test size) at m p₁ m₁ → Writes (frame_made d.locals) p₁ m₁ p₂ m₂ → Writes (clear_words 0 d.locals) p₂ m₂ p₃ m₃ → EmitsStmt nodes d.body cells places p₃ m₃ p₄ m₄ → Writes (frame_left d.locals size) p₄ m₄ r m' →
       EmitsProc nodes d cells places at m r m'
-  emits_proc high size p₁ p₂ p₃ p₄ r m₁ m₂ m₃ m₄ m' highs sizes ends test made cleared body left g t p is =
+  emits_proc size p₁ p₂ p₃ p₄ r m₁ m₂ m₃ m₄ m' sized ends test made cleared body left g t p is =
       let same : d.locals ≡ p.locals = is.0 in
-      let high_is = highs p.body is.1 in
-      let size_is : frame_size p ≡ size = omega arith in
+      let size_is : frame_size p ≡ size = sym (sized p is) in
       let test-end = test.ends in
       let made-end = made.ends in
       let cleared-end = cleared.ends in

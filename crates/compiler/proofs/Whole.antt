@@ -7,9 +7,9 @@ use Rattle.codegen.specs.Instructions.{Instruction, encode}
 use Rattle.codegen.proofs.Limits.{within_limits}
 use Rattle.codegen.proofs.Sizes.{code_length, end_within}
 use Rattle.compiler.specs.Writing.{put_all, Emits, Writes}
-use Rattle.compiler.specs.Procs.{ProgramHeld, IsImage}
-use Rattle.language.specs.declared.nodes.Node.{Node}
-use Rattle.language.specs.declared.nodes.Procedure.{Procedure}
+use Rattle.compiler.specs.Procs.{IsImage}
+use Rattle.language.specs.Held.{HeldProgram}
+use Rattle.language.specs.declared.parsed.Parsed.{Parsed}
 
 pub procs_more : (g : Program) (p : Proc) (ps qs : List Proc) (at r : ℕ) (m m' : List ℕ) → qs ≡ p ∷ ps → Emits (λ rest. code_proc g p at rest) (end_of_proc p at) at m r m' → put_all m at (code_procs g qs at) ≡ put_all m' r (code_procs g ps r)
 procs_more g p ps qs at r m m' e x =
@@ -44,8 +44,8 @@ over_zeros (i ∷ is) front (suc k) n e =
     ∙ over_zeros is (front ++ (w ∷ [])) k n (omega arith)
     ∙ joined front w (map encode is ++ replicate n 0)
 
-pub is_image : (nodes : List Node) (table : List Procedure) (count : ℕ) (g : Program) (n : ℕ) (m : List ℕ) → ProgramHeld nodes table count g → n ≡ memory_size → m ≡ put_all (replicate n 0) 0 (code g) → IsImage g m
-is_image nodes table count g n m h e x =
+pub is_image : (p : Parsed) (g : Program) (n : ℕ) (m : List ℕ) → HeldProgram p g → n ≡ memory_size → m ≡ put_all (replicate n 0) 0 (code g) → IsImage g m
+is_image p g n m h e x =
     let within = within_limits g h.within in
     let few = code_length g within in
     let short = end_within g within in

@@ -7,4 +7,5 @@ pub mod Work
 pub mod Statements
 pub mod Procs
 pub mod Places
+pub mod Pairs
 pub mod Locates

@@ -1,27 +1,27 @@
 -- What is promised of the list of a text's signs.
-use Rattle.std.specs.Prelude.{◌≡◌, ℕ, T, List, ◌++◌, map, length, drop, Ok, Err, Result}
+use Rattle.std.specs.Prelude.{◌≡◌, ℕ, T, List, map, Ok, Err, Result}
+use Rattle.arrayvec.specs.ArrayVec.{ArrayVec}
 use Rattle.language.specs.Language.{Program}
 use Rattle.language.specs.Limits.{fits}
 use Rattle.text.specs.Text.{Reads}
 use Rattle.text.specs.Verdicts.{Judged}
-use Rattle.text.specs.declared.judge.Verdict.TheVariants as V
-use Rattle.text.specs.declared.load.Refused.{Refused}
-use Rattle.text.specs.declared.load.Refused.TheVariants as F
-use Rattle.signs.specs.Signs.{locate_signs, RightSigns}
+use Rattle.text.specs.declared.judge.Refused.{Refused}
+use Rattle.signs.specs.Signs.{Located as Sign, locate_signs, RightSigns}
+use Rattle.compiler.specs.declared.located.SignPlace.{SignPlace}
 
--- The text reads a program within the limits, which has n signs; their words and places stand first in two lists, and what
--- is past them stays.
-pub record SignsLocated (s before before' places places' : List ℕ) (n : ℕ) : Type 0 where
+-- the word and the place of a sign
+abbrev pub spot : Sign → SignPlace
+spot x = record { word = x.word; place = x.place }
+
+-- The text reads a program within the limits; the list has the words and the places of its signs, and they are right.
+pub record SignsLocated (s : List ℕ) (l : ArrayVec SignPlace) : Type 0 where
   pub program : Program
   pub reads : Reads s program
   pub within : T (fits program)
-  pub count : n ≡ length (locate_signs program)
-  pub words_are : before' ≡ map (λ x. x.word) (locate_signs program) ++ drop n before
-  pub places_are : places' ≡ map (λ x. x.place) (locate_signs program) ++ drop n places
+  pub signs_are : l.items ≡ map spot (locate_signs program)
   pub right : RightSigns s program (locate_signs program)
 
--- a text that is refused leaves both lists as they were
-abbrev pub Locates : List ℕ → List ℕ → List ℕ → List ℕ → List ℕ → Result ℕ Refused → Type 0
-Locates s before before' places places' (Ok n) = SignsLocated s before before' places places' n
-Locates s before before' places places' (Err F.NoProgram) = Judged s V.NoProgram × (before' ≡ before) × (places' ≡ places)
-Locates s before before' places places' (Err F.Limits) = Judged s V.Limits × (before' ≡ before) × (places' ≡ places)
+-- or the refusal is right
+abbrev pub Locates : List ℕ → Result (ArrayVec SignPlace) Refused → Type 0
+Locates s (Ok l) = SignsLocated s l
+Locates s (Err r) = Judged s (Err r)

@@ -2,7 +2,7 @@
 -- So it is of every expression, and of every statement but 'then', 'if' and 'while'.
 use Rattle.std.specs.Prelude.{◌≡◌, ℕ, ◌<◌, ◌≤◌, T, List, [], ◌∷◌, ◌++◌, length}
 use Rattle.words.specs.Words.{word}
-use Rattle.language.specs.Language.{Expr, Stmt, Program, both_height, height}
+use Rattle.language.specs.Language.{Expr, Stmt, Program}
 use Rattle.language.specs.Limits.{most_globals, most_procs, fits_expr, fits_stmt}
 use Rattle.language.specs.Nodes.{node_at, ExprAt, StmtAt}
 use Rattle.language.specs.declared.nodes.Node.{Node}
@@ -12,8 +12,9 @@ use Rattle.codegen.specs.Instructions.{Instruction, past}
 use Rattle.codegen.specs.Layout.{value, code_limit}
 use Rattle.compiler.specs.declared.parts.Parts.{Parts}
 use Rattle.compiler.specs.declared.parts.Parts.TheVariants as P
-use Rattle.compiler.specs.declared.measure.Extent.{Extent}
-use Rattle.compiler.specs.Writing.{Emits}
+use Rattle.compiler.specs.declared.source.Source.{Source}
+use Rattle.compiler.specs.declared.writer.Writer.{Writer}
+use Rattle.compiler.specs.Writing.{Emits, Wrote}
 
 -- the expressions that a node has as parts
 abbrev pub parts_of : Node → Parts
@@ -64,29 +65,6 @@ last_block cells place (N.Proc n j k) = []
 -- the place after a node's last block that begins at a place
 abbrev pub past_last : Node → ℕ → ℕ
 past_last d at = past (last_block 0 (λ f. 0) d) at
-
--- the height of a node without parts
-abbrev pub lone_height : Node → ℕ
-lone_height (N.Num n) = 1
-lone_height (N.Loc n) = 1
-lone_height (N.Glob n) = 1
-lone_height (N.Cell j) = 0
-lone_height (N.Add j k) = 0
-lone_height (N.Sub j k) = 0
-lone_height (N.Nand j k) = 0
-lone_height (N.Less j k) = 0
-lone_height (N.Half j) = 0
-lone_height (N.Call f j) = 0
-lone_height N.Skip = 0
-lone_height (N.Then j k) = 0
-lone_height (N.SetLoc n j) = 0
-lone_height (N.SetGlob n j) = 0
-lone_height (N.SetCell j k) = 0
-lone_height (N.If j k l) = 0
-lone_height (N.While j k) = 0
-lone_height (N.Out j) = 0
-lone_height (N.Take n) = 0
-lone_height (N.Proc n j k) = 0
 
 -- the numbers of a node that stand in its last block are within the widths of instructions and of tables
 abbrev pub NodeFits : Node → Type 0
@@ -140,7 +118,7 @@ abbrev pub AllFit : List Expr → Type 0
 AllFit [] = Unit {0}
 AllFit (e ∷ es) = ExprFits e × AllFit es
 
--- the code of parts, with a push between two; where it ends; and its height
+-- the code of parts, with a push between two; and where it ends
 abbrev pub code_more : Program → List Expr → List Instruction → List Instruction
 code_more g [] rest = rest
 code_more g (e ∷ es) rest = push ++ code_expr g e (code_more g es rest)
@@ -157,23 +135,12 @@ abbrev pub end_of_parts : List Expr → ℕ → ℕ
 end_of_parts [] at = at
 end_of_parts (e ∷ es) at = end_of_more es (end_of_expr e at)
 
-abbrev pub height_more : ℕ → List Expr → ℕ
-height_more h [] = h
-height_more h (e ∷ es) = height_more (both_height h (height e)) es
-
-abbrev pub height_of_parts : ℕ → List Expr → ℕ
-height_of_parts lone [] = lone
-height_of_parts lone (e ∷ es) = height_more (height e) es
-
 -- of a node with the parts es
 abbrev pub work_code : Program → Node → List Expr → List Instruction → List Instruction
 work_code g d es rest = code_parts g es (last_block g.cells (entry g) d ++ rest)
 
 abbrev pub work_end : Node → List Expr → ℕ → ℕ
 work_end d es at = past_last d (end_of_parts es at)
-
-abbrev pub work_height : Node → List Expr → ℕ
-work_height d es = height_of_parts (lone_height d) es
 
 -- at node i stands work whose code, from a place on, is within the words for code
 pub record Works (nodes : List Node) (i at : ℕ) : Type 0 where
@@ -197,10 +164,6 @@ pub record Target (g : Program) (cells : ℕ) (places : List ℕ) : Type 0 where
   pub cells_is : cells ≡ g.cells
   pub places_are : (f : ℕ) → f < most_procs → word places f ≡ entry g f
 
--- where the code of node i ends, and its height
-abbrev pub MeasuresWork : List Node → ℕ → ℕ → Extent → Type 0
-MeasuresWork nodes i at r = (es : List Expr) → PartsAt nodes i (parts_of (node_at nodes i)) es → (r.end ≡ work_end (node_at nodes i) es at) × (r.height ≡ work_height (node_at nodes i) es)
-
 -- the code of node i ends at the place r
 abbrev pub EndsWork : List Node → ℕ → ℕ → ℕ → Type 0
 EndsWork nodes i at r = (es : List Expr) → PartsAt nodes i (parts_of (node_at nodes i)) es → r ≡ work_end (node_at nodes i) es at
@@ -208,3 +171,13 @@ EndsWork nodes i at r = (es : List Expr) → PartsAt nodes i (parts_of (node_at 
 -- the code of node i was written
 abbrev pub EmitsWork : List Node → ℕ → ℕ → List ℕ → ℕ → List ℕ → ℕ → List ℕ → Type 0
 EmitsWork nodes i cells places at m r m' = (g : Program) → Target g cells places → (es : List Expr) → PartsAt nodes i (parts_of (node_at nodes i)) es → Emits (work_code g (node_at nodes i) es) (work_end (node_at nodes i) es at) at m r m'
+
+-- a writer wrote the last block of the node d, from what the source c has
+abbrev pub Finished : Source → Node → Writer → Writer → Type 0
+Finished c d w w' = Wrote (last_block c.cells (λ f. word c.places.now f) d) w w'
+
+-- a writer wrote the code of node i, from what the source c has
+pub record WroteWork (c : Source) (i : ℕ) (w w' : Writer) : Type 0 where
+  pub same_image : w'.image.ghost_name ≡ w.image.ghost_name
+  pub ends : EndsWork c.nodes.now i w.at w'.at
+  pub words : EmitsWork c.nodes.now i c.cells c.places.now w.at w.image.now w'.at w'.image.now

@@ -4,6 +4,7 @@ use Rattle.words.specs.Words.{put}
 use Rattle.codegen.specs.Instructions.{Instruction, ADD, SUB, NAND, LESS, HALF, LOW, HIGH, LOAD, STORE, ZERO, JUMP, IN, OUT, DONE, INDEX, FULL, encode, WithinWidths, past}
 use Rattle.compiler.specs.declared.instructions.Instruction.{Instruction as Written}
 use Rattle.compiler.specs.declared.instructions.Instruction.TheVariants as I
+use Rattle.compiler.specs.declared.writer.Writer.{Writer}
 
 -- the instruction that a value of the code stands for
 abbrev pub meaning : Written → Instruction
@@ -41,3 +42,8 @@ pub record Emits (code : List Instruction → List Instruction) (end at : ℕ) (
 
 abbrev pub Writes : List Instruction → ℕ → List ℕ → ℕ → List ℕ → Type 0
 Writes is at m r m' = Emits (λ rest. is ++ rest) (past is at) at m r m'
+
+-- A writer, which was w and is w', wrote code into its image: it is still the same one.
+pub record Wrote (code : List Instruction) (w w' : Writer) : Type 0 where
+  pub same_image : w'.image.ghost_name ≡ w.image.ghost_name
+  pub words : Writes code w.at w.image.now w'.at w'.image.now

@@ -1,7 +1,10 @@
 // The machine's instructions, the word of one, and the writing of some at a place of an image.
-ghost use Rattle.std.specs.Prelude.{◌≡◌, ◌+◌, ◌≤◌, ◌++◌, map, length};
+ghost use Rattle.std.specs.Prelude.{◌≡◌, ◌+◌, ◌≤◌, map, length};
+ghost use Rattle.words.specs.Words.{memory_size};
 ghost use Rattle.codegen.specs.Instructions.{WithinWidths, encode, past};
-ghost use Rattle.compiler.specs.Writing.{meaning, AllWithin, Writes};
+ghost use Rattle.compiler.specs.Writing.{meaning, AllWithin, Wrote};
+
+use crate::writer::Writer;
 
 // Registers go by number, in the order d, a, b; then a number of 9 or 6 bits.
 #[derive(Clone, Copy)]
@@ -49,16 +52,16 @@ pub(crate) fn word_of(instruction: Instruction) -> u16
     }
 }
 
-// Writes instructions from a place on; the place after them.
-pub(crate) fn write(image: &mut [u16], at: usize, code: &[Instruction]) -> usize
-    requires room { at + length code.now ≤ length image.old }
-    requires widths { AllWithin (map meaning code.now) }
-    ensures { Writes (map meaning code.now) at image.old result image.new }
-{
-    let mut place = at;
-    for instruction in code {
-        image[place] = word_of(*instruction);
-        place += 1;
+impl Writer<'_> {
+    // Writes instructions, and goes on behind them.
+    pub(crate) fn write(&mut self, code: &[Instruction])
+        requires room { self.old.at + length code.now ≤ memory_size }
+        requires widths { AllWithin (map meaning code.now) }
+        ensures { Wrote (map meaning code.now) self.old self.new }
+    {
+        for instruction in code {
+            self.image[self.at] = word_of(*instruction);
+            self.at += 1;
+        }
     }
-    place
 }

@@ -6,49 +6,72 @@ mod emit;
 mod frames;
 mod instructions;
 pub mod locate;
-mod loops;
+pub mod located;
 mod measure;
 mod parts;
 mod places;
 mod procs;
 mod registers;
 pub mod sizes;
+mod source;
+mod writer;
 
-ghost use Rattle.compiler.specs.Promise.{Built};
+ghost use Rattle.std.specs.Prelude.{◌≡◌, Some};
+ghost use Rattle.compiler.specs.Promise.{Built, message, why};
 
-use language::nodes::{MOST_NODES, MOST_PROCEDURES, Node, Procedure};
 use procs::assemble;
-use text::load::{Refused, load};
+use std::error::Error;
+use std::fmt;
+use text::judge::Refused;
+use text::load::load;
 
 // An image has so many words.
 const MEMORY_SIZE: usize = 65536;
 
-// What came of a text: an image; or it is no program, or one outside the limits; or there is no place for an image.
-#[derive(Clone, Copy)]
-pub enum Made {
-    Image,
+// Why no image was made of a text: it is no program, or one outside the limits; or there is no place for an image.
+#[derive(Clone, Copy, PartialEq, Eq, Debug)]
+pub enum BuildError {
     NoProgram,
     Limits,
     Short,
 }
 
+impl From<Refused> for BuildError {
+    ghost from_gives = { λ r e. e ≡ why r };
+
+    fn from(refused: Refused) -> BuildError {
+        match refused {
+            Refused::NoProgram => BuildError::NoProgram,
+            Refused::Limits => BuildError::Limits,
+        }
+    }
+}
+
+impl fmt::Display for BuildError {
+    ghost output = { λ e. Some (message e) };
+
+    fn fmt<W: fmt::Write>(&self, f: &mut fmt::Formatter<W>) -> fmt::Result {
+        match self {
+            BuildError::NoProgram => write!(f, "no program: the text is not the writing of one"),
+            BuildError::Limits => write!(
+                f,
+                "limits: the program is larger than it may be, or names what is not there"
+            ),
+            BuildError::Short => write!(f, "the image has not 65536 words"),
+        }
+    }
+}
+
+impl Error for BuildError {}
+
 // Makes the image of the program that a text is the writing of. A refusal leaves the image's words as they were.
-pub fn build(text: &[u8], image: &mut [u16]) -> Made
+pub fn build(text: &[u8], image: &mut [u16]) -> Result<(), BuildError>
     ensures { Built text.now image.old image.new result }
 {
     if image.len() != MEMORY_SIZE {
-        return Made::Short;
+        return Err(BuildError::Short);
     }
-    let mut nodes = [Node::Skip; MOST_NODES];
-    let mut table = [Procedure { locals: 0, body: 0 }; MOST_PROCEDURES];
-    match load(text, &mut nodes, &mut table) {
-        Ok(sizes) => {
-            assemble(&nodes, &table, sizes.procs, sizes.cells as u16, image);
-            Made::Image
-        }
-        Err(refused) => match refused {
-            Refused::NoProgram => Made::NoProgram,
-            Refused::Limits => Made::Limits,
-        },
-    }
+    let parsed = load(text)?;
+    assemble(&parsed, image);
+    Ok(())
 }

@@ -1,97 +1,51 @@
-// Where the code of a node ends, and how high its work is.
-ghost use Rattle.std.specs.Prelude.{◌≡◌, ◌<◌, max};
-ghost use Rattle.language.specs.Language.{both_height};
-ghost use Rattle.compiler.specs.Statements.{MeasuresStmt};
-ghost use Rattle.compiler.specs.Work.{Works, StmtWorks, MeasuresWork};
+// Where the code of a node ends.
+ghost use Rattle.compiler.specs.Statements.{EndsStmt};
+ghost use Rattle.compiler.specs.Work.{Works, StmtWorks, EndsWork};
 
-use crate::parts::{Parts, last_words, lone, split};
+use crate::parts::{Parts, last_words, split};
 use crate::sizes::{GO_UNLESS_WORDS, GO_WORDS, LOOP_WORDS, PUSH_WORDS};
-use language::nodes::{MOST_NODES, Node};
-
-// The place after the code, and the height.
-#[derive(Clone, Copy)]
-pub(crate) struct Extent {
-    pub(crate) end: usize,
-    pub(crate) height: usize,
-}
-
-// The height of two, the first of which waits on the stack while the second is worked out.
-fn both(first: usize, second: usize) -> usize
-    requires { second < 65536 }
-    ensures { result ≡ both_height first second }
-{
-    first.max(1 + second)
-}
+use language::nodes::Node;
 
 // Of an expression, or of a statement whose parts are expressions.
-pub(crate) fn measure_work(nodes: &[Node; MOST_NODES], i: u16, at: usize) -> Extent
+pub(crate) fn measure_work(nodes: &[Node], i: u16, at: usize) -> usize
     requires { Works nodes.now i at }
-    ensures { MeasuresWork nodes.now i at result }
+    ensures { EndsWork nodes.now i at result }
 {
     let node = nodes[i as usize];
     let words = last_words(node);
     match split(node) {
-        Parts::Nothing => Extent {
-            end: at + words,
-            height: lone(node),
-        },
-        Parts::One(a) => {
-            let x = measure_work(nodes, a, at);
-            Extent {
-                end: x.end + words,
-                height: x.height,
-            }
+        Parts::Nothing => at + words,
+        Parts::One(part) => {
+            let x = measure_work(nodes, part, at);
+            x + words
         }
-        Parts::Two(a, b) => {
-            let x = measure_work(nodes, a, at);
-            let y = measure_work(nodes, b, x.end + PUSH_WORDS);
-            Extent {
-                end: y.end + words,
-                height: both(x.height, y.height),
-            }
+        Parts::Two(first, second) => {
+            let x = measure_work(nodes, first, at);
+            let y = measure_work(nodes, second, x + PUSH_WORDS);
+            y + words
         }
     }
 }
 
-// The higher of two.
-fn higher(a: usize, b: usize) -> usize
-    ensures { result ≡ max a b }
-{
-    a.max(b)
-}
-
 // Of a statement.
-pub(crate) fn measure_stmt(nodes: &[Node; MOST_NODES], i: u16, at: usize) -> Extent
+pub(crate) fn measure_stmt(nodes: &[Node], i: u16, at: usize) -> usize
     requires { StmtWorks nodes.now i at }
-    ensures { MeasuresStmt nodes.now i at result }
+    ensures { EndsStmt nodes.now i at result }
 {
-    let node = nodes[i as usize];
-    match node {
+    match nodes[i as usize] {
         Node::Then(a, b) => {
             let x = measure_stmt(nodes, a, at);
-            let y = measure_stmt(nodes, b, x.end);
-            Extent {
-                end: y.end,
-                height: higher(x.height, y.height),
-            }
+            measure_stmt(nodes, b, x)
         }
         Node::If(test, first, second) => {
             let x = measure_work(nodes, test, at);
-            let y = measure_stmt(nodes, second, x.end + GO_UNLESS_WORDS);
-            let z = measure_stmt(nodes, first, y.end + GO_WORDS);
-            let ways = higher(z.height, y.height);
-            Extent {
-                end: z.end,
-                height: higher(x.height, ways),
-            }
+            let y = measure_stmt(nodes, second, x + GO_UNLESS_WORDS);
+            measure_stmt(nodes, first, y + GO_WORDS)
         }
         Node::While(test, body) => {
             let x = measure_work(nodes, test, at);
-            let y = measure_stmt(nodes, body, x.end + LOOP_WORDS);
-            Extent {
-                end: y.end + GO_WORDS,
-                height: higher(x.height, y.height),
-            }
+            let y = measure_stmt(nodes, body, x + LOOP_WORDS);
+            y + GO_WORDS
         }
         _ => measure_work(nodes, i, at),
     }

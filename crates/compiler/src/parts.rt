@@ -1,15 +1,17 @@
 // The parts of a node that are expressions, and what stands after their code.
-ghost use Rattle.std.specs.Prelude.{◌≡◌, ℕ, ◌+◌, ◌≤◌, length};
-ghost use Rattle.words.specs.Words.{word};
-ghost use Rattle.compiler.specs.Work.{parts_of, last_block, past_last, lone_height, NodeFits};
-ghost use Rattle.compiler.specs.Writing.{Writes};
+ghost use Rattle.std.specs.Prelude.{◌≡◌, ℕ, ◌+◌, ◌≤◌};
+ghost use Rattle.words.specs.Words.{memory_size};
+ghost use Rattle.compiler.specs.Work.{parts_of, past_last, NodeFits, Finished};
 
-use crate::blocks;
+use crate::instructions::Instruction;
+use crate::registers::{VALUE, WORK};
 use crate::sizes::{
     GO_WORDS, HALVE_WORDS, LOAD_CELL_WORDS, NUMBER_WORDS, OPERATION_WORDS, OUT_WORDS,
     STORE_CELL_WORDS, TAKE_WORDS, VARIABLE_WORDS,
 };
-use language::nodes::{MOST_PROCEDURES, Node};
+use crate::source::Source;
+use crate::writer::Writer;
+use language::nodes::Node;
 
 #[derive(Clone, Copy)]
 pub(crate) enum Parts {
@@ -50,44 +52,31 @@ pub(crate) fn last_words(node: Node) -> usize
     }
 }
 
-// The height of a node without parts.
-pub(crate) fn lone(node: Node) -> usize
-    ensures { result ≡ lone_height node }
-{
-    match node {
-        Node::Num(_) | Node::Loc(_) | Node::Glob(_) => 1,
-        _ => 0,
-    }
-}
-
-// Writes a node's last block.
-pub(crate) fn finish(
-    node: Node,
-    cells: u16,
-    places: &[u16; MOST_PROCEDURES],
-    image: &mut [u16],
-    at: usize,
-) -> usize
-    requires fits { NodeFits node }
-    requires room { past_last node at ≤ length image.old }
-    ensures { Writes (last_block cells (λ f. word places.now f) node) at image.old result image.new }
-{
-    match node {
-        Node::Num(n) => blocks::number(image, at, n),
-        Node::Loc(i) => blocks::load_local(image, at, i),
-        Node::Glob(i) => blocks::load_global(image, at, i),
-        Node::Cell(_) => blocks::load_cell(image, at, cells),
-        Node::Add(_, _) => blocks::pop_add(image, at),
-        Node::Sub(_, _) => blocks::pop_sub(image, at),
-        Node::Nand(_, _) => blocks::pop_nand(image, at),
-        Node::Less(_, _) => blocks::pop_less(image, at),
-        Node::Half(_) => blocks::halve(image, at),
-        Node::Call(f, _) => blocks::go_to(image, at, places[f as usize]),
-        Node::SetLoc(i, _) => blocks::store_local(image, at, i),
-        Node::SetGlob(i, _) => blocks::store_global(image, at, i),
-        Node::SetCell(_, _) => blocks::store_cell(image, at, cells),
-        Node::Out(_) => blocks::put_out(image, at),
-        Node::Take(i) => blocks::take_to_local(image, at, i),
-        _ => at,
+impl Source<'_> {
+    // Writes a node's last block.
+    pub(crate) fn finish(&self, node: Node, writer: &mut Writer<'_>)
+        requires fits { NodeFits node }
+        requires room { past_last node writer.old.at ≤ memory_size }
+        ensures { Finished self.now node writer.old writer.new }
+    {
+        match node {
+            Node::Num(n) => writer.number(n),
+            Node::Loc(i) => writer.local(i, Instruction::Load(VALUE, WORK, 0)),
+            Node::Glob(i) => writer.global(i, Instruction::Load(VALUE, WORK, 0)),
+            Node::Cell(_) => writer.load_cell(self.cells),
+            Node::Add(_, _) => writer.operate(Instruction::Add(VALUE, WORK, VALUE)),
+            Node::Sub(_, _) => writer.operate(Instruction::Sub(VALUE, WORK, VALUE)),
+            Node::Nand(_, _) => writer.operate(Instruction::Nand(VALUE, WORK, VALUE)),
+            Node::Less(_, _) => writer.operate(Instruction::Less(VALUE, WORK, VALUE)),
+            Node::Half(_) => writer.halve(),
+            Node::Call(f, _) => writer.go_to(self.places[f as usize]),
+            Node::SetLoc(i, _) => writer.local(i, Instruction::Store(VALUE, WORK, 0)),
+            Node::SetGlob(i, _) => writer.global(i, Instruction::Store(VALUE, WORK, 0)),
+            Node::SetCell(_, _) => writer.store_cell(self.cells),
+            Node::Out(_) => writer.put_out(),
+            Node::Take(i) => writer.take_to_local(i),
+            Node::Skip | Node::Then(_, _) | Node::If(_, _, _) => {}
+            Node::While(_, _) | Node::Proc(_, _, _) => {}
+        }
     }
 }

@@ -1,133 +1,103 @@
 // The code of procedures, and the places where they begin.
-ghost use Rattle.std.specs.Prelude.{◌≡◌, suc, ◌<◌, length, replicate};
+ghost use Rattle.std.specs.Prelude.{◌≡◌, suc, ◌<◌, ◌≤◌, length, take};
 ghost use Rattle.words.specs.Words.{memory_size};
 ghost use Rattle.codegen.specs.Codegen.{code, entry};
+ghost use Rattle.language.specs.Held.{HeldProgram, SomeProgram};
 ghost use Rattle.language.specs.Language.{Program};
 ghost use Rattle.language.specs.Limits.{most_procs};
-ghost use Rattle.compiler.specs.Procs.{ProcWorks, EndsProc, EmitsProc, SomeProgram, Places, ProgramHeld, IsImage};
+ghost use Rattle.compiler.specs.Procs.{ProcWorks, FrameOf, EndsProc, WroteProc, Places, IsImage};
 ghost use Rattle.compiler.specs.Writing.{put_all};
 
-use crate::emit::emit_stmt;
-use crate::frames;
 use crate::measure::measure_stmt;
-use crate::registers::FRAME_WORDS;
 use crate::sizes::{HEAD_WORDS, RETURN_WORDS, START_WORDS};
-use language::nodes::{MOST_NODES, MOST_PROCEDURES, Node, Procedure};
+use crate::source::Source;
+use crate::writer::Writer;
+use language::frames::frame_of;
+use language::nodes::{MOST_PROCEDURES, Node, Procedure};
+use language::parsed::Parsed;
 
 // The place after a procedure's code.
-pub(crate) fn measure_proc(nodes: &[Node; MOST_NODES], procedure: Procedure, at: usize) -> usize
+pub(crate) fn measure_proc(nodes: &[Node], procedure: Procedure, at: usize) -> usize
     requires { ProcWorks nodes.now procedure at }
     ensures { EndsProc nodes.now procedure at result }
 {
     let body_place = at + HEAD_WORDS + procedure.locals as usize;
-    let body = measure_stmt(nodes, procedure.body, body_place);
-    body.end + RETURN_WORDS
+    let body_end = measure_stmt(nodes, procedure.body, body_place);
+    body_end + RETURN_WORDS
 }
 
-// Writes a procedure's code. The size of its frame is known from the measure of its body.
-fn emit_proc(
-    nodes: &[Node; MOST_NODES],
-    cells: u16,
-    places: &[u16; MOST_PROCEDURES],
-    procedure: Procedure,
-    image: &mut [u16],
-    at: usize,
-) -> usize
-    requires works { ProcWorks nodes.now procedure at }
-    requires whole { length image.old ≡ memory_size }
-    ensures ends { EndsProc nodes.now procedure at result }
-    ensures words { EmitsProc nodes.now procedure cells places.now at image.old result image.new }
-{
-    let locals = procedure.locals;
-    let body_place = at + HEAD_WORDS + locals as usize;
-    let body = measure_stmt(nodes, procedure.body, body_place);
-    let size = FRAME_WORDS + (locals + body.height as u16);
-    let p = frames::check_room(image, at, size);
-    let q = frames::make_frame(image, p, locals);
-    let r = frames::clear_locals(image, q, locals);
-    let s = emit_stmt(nodes, cells, places, procedure.body, image, r);
-    frames::leave_frame(image, s, locals, size)
+impl Source<'_> {
+    // Writes the code of a procedure whose frame has this size.
+    fn emit_proc(&self, procedure: Procedure, size: u16, writer: &mut Writer<'_>)
+        requires works { ProcWorks self.now.nodes.now procedure writer.old.at }
+        requires sized { FrameOf self.now.nodes.now procedure size }
+        ensures { WroteProc self.now procedure writer.old writer.new }
+    {
+        writer.check_room(size);
+        writer.make_frame(procedure.locals);
+        writer.clear_locals(procedure.locals);
+        self.emit_stmt(procedure.body, writer);
+        writer.leave_frame(procedure.locals, size);
+    }
 }
 
 // The place after procedure f, which begins at the place `at`; past the last procedure the place stays.
-fn next_place(
-    nodes: &[Node; MOST_NODES],
-    table: &[Procedure; MOST_PROCEDURES],
-    count: usize,
-    f: usize,
-    at: usize,
-) -> usize
+fn next_place(parsed: &Parsed, f: usize, at: usize) -> usize
     requires few { f < most_procs }
-    requires stands { (g : Program) × ProgramHeld nodes.now table.now count g × (at ≡ entry g f) }
-    ensures { (g : Program) → ProgramHeld nodes.now table.now count g → at ≡ entry g f → result ≡ entry g (suc f) }
+    requires stands { (g : Program) × HeldProgram parsed.now g × (at ≡ entry g f) }
+    ensures { (g : Program) → HeldProgram parsed.now g → at ≡ entry g f → result ≡ entry g (suc f) }
 {
-    if f < count {
-        measure_proc(nodes, table[f], at)
+    if f < parsed.sizes.procs {
+        measure_proc(&parsed.nodes, parsed.table[f], at)
     } else {
         at
     }
 }
 
+// That some program is held is asked for by four functions: the prover keeps in a ghost field of `Parsed` only facts of
+// which there is at most one proof, and which program it is, which the code is written for, is data (tried).
+
 // The place of every procedure; the entries past the last have the place after it.
-pub(crate) fn place_procs(
-    nodes: &[Node; MOST_NODES],
-    table: &[Procedure; MOST_PROCEDURES],
-    count: usize,
-    places: &mut [u16; MOST_PROCEDURES],
-)
-    requires { SomeProgram nodes.now table.now count }
-    ensures { Places nodes.now table.now count places.new }
+pub(crate) fn place_procs(parsed: &Parsed) -> [u16; MOST_PROCEDURES]
+    requires { SomeProgram parsed.now }
+    ensures { Places parsed.now result }
 {
+    let mut places = [0u16; MOST_PROCEDURES];
     let mut at = START_WORDS;
-    for f in 0..MOST_PROCEDURES {
-        places[f] = at as u16;
-        at = next_place(nodes, table, count, f, at);
+    for (f, place) in places.iter_mut().enumerate() {
+        *place = at as u16;
+        at = next_place(parsed, f, at);
     }
+    places
 }
 
-// Writes a program's code.
-pub(crate) fn emit_program(
-    nodes: &[Node; MOST_NODES],
-    table: &[Procedure; MOST_PROCEDURES],
-    count: usize,
-    cells: u16,
-    places: &[u16; MOST_PROCEDURES],
-    image: &mut [u16],
-)
-    requires stands { SomeProgram nodes.now table.now count }
-    requires placed { Places nodes.now table.now count places.now }
+// Writes a program's code from place 0 on.
+fn emit_program(parsed: &Parsed, places: &[u16; MOST_PROCEDURES], image: &mut [u16])
+    requires stands { SomeProgram parsed.now }
+    requires placed { Places parsed.now places.now }
     requires whole { length image.old ≡ memory_size }
-    ensures { (g : Program) → ProgramHeld nodes.now table.now count g → cells ≡ g.cells → image.new ≡ put_all image.old 0 (code g) }
+    ensures { (g : Program) → HeldProgram parsed.now g → image.new ≡ put_all image.old 0 (code g) }
 {
-    let mut at = frames::start(image, 0, places[0]);
-    for f in 0..count {
-        at = emit_proc(nodes, cells, places, table[f], image, at);
-    }
-}
-
-// Every word takes 0.
-fn clear(image: &mut [u16])
-    ensures { image.new ≡ replicate (length image.old) 0 }
-{
-    for i in 0..image.len() {
-        image[i] = 0;
+    let source = Source {
+        nodes: &parsed.nodes,
+        cells: parsed.sizes.cells as u16,
+        places,
+    };
+    let mut writer = Writer { image, at: 0 };
+    writer.start(places[0]);
+    for procedure in parsed.procedures() {
+        let size = frame_of(&parsed.nodes, *procedure) as u16;
+        source.emit_proc(*procedure, size, &mut writer);
     }
 }
 
 // Makes the image of a program: 0, and then its code from place 0 on.
-pub(crate) fn assemble(
-    nodes: &[Node; MOST_NODES],
-    table: &[Procedure; MOST_PROCEDURES],
-    count: usize,
-    cells: u16,
-    image: &mut [u16],
-)
-    requires stands { SomeProgram nodes.now table.now count }
+pub(crate) fn assemble(parsed: &Parsed, image: &mut [u16])
+    requires stands { SomeProgram parsed.now }
     requires whole { length image.old ≡ memory_size }
-    ensures { (g : Program) → ProgramHeld nodes.now table.now count g → cells ≡ g.cells → IsImage g image.new }
+    ensures { (g : Program) → HeldProgram parsed.now g → IsImage g image.new }
 {
-    let mut places = [0u16; MOST_PROCEDURES];
-    place_procs(nodes, table, count, &mut places);
-    clear(image);
-    emit_program(nodes, table, count, cells, &places, image);
+    let places = place_procs(parsed);
+    image.fill(0);
+    emit_program(parsed, &places, image);
 }

@@ -1,4 +1,5 @@
-// The places in memory, and the use of the registers.
+// The places in memory, and the use of the registers. A register is its number, as in the word of an instruction and in the
+// definition of the code: an enum would be made into the number wherever it is used.
 
 // Of the globals, of the cells, and one past the stack's highest word.
 pub(crate) const GLOBALS: u16 = 52952;
@@ -7,10 +8,8 @@ pub(crate) const CELLS: u16 = 53208;
 
 pub(crate) const STACK_TOP: u16 = 65496;
 
-// So many words are there for frames; a frame has so many beside its further locals and the height of its body.
+// So many words are there for frames.
 pub(crate) const FRAME_ROOM: u16 = 8192;
-
-pub(crate) const FRAME_WORDS: u16 = 4;
 
 // The value that was worked out last.
 pub(crate) const VALUE: u16 = 0;

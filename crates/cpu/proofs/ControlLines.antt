@@ -42,6 +42,10 @@ module _ (f : ℕ → Bool) (q : Obeys f control_start control_stage) where
   unfolding control_stage
   gate n e = obeys_at f control_start control_stage (n - control_start) q e
 
+  -- a line made of a NAND and its inverse is high where both of its lines are
+  both : {n m x y : ℕ} {a b : Bool} → f n ≡ nand (f x) (f y) → f m ≡ nand (f n) (f n) → f x ≡ a → f y ≡ b → f m ≡ a && b
+  both {n} {m} {x} {y} {a} {b} u v p r = and_two f n m a b (u ∙ ap₂ nand p r) v
+
   -- lines that are led on with their inverses
   pub not_op_0 : f NOT_OP_0 ≡ not (f OP_0)
   unfolding control_stage
@@ -86,15 +90,15 @@ module _ (f : ℕ → Bool) (q : Obeys f control_start control_stage) where
   -- the number's bits 6, 7 and 8, which count only for zero
   pub sign_6 : f SIGN_6 ≡ f NUMBER_6 && f OP_ZERO
   unfolding control_stage
-  sign_6 = and_two f NOT_SIGN_6 SIGN_6 (f NUMBER_6) (f OP_ZERO) (gate NOT_SIGN_6 refl) (gate SIGN_6 refl)
+  sign_6 = both (gate NOT_SIGN_6 refl) (gate SIGN_6 refl) refl refl
 
   pub sign_7 : f SIGN_7 ≡ f NUMBER_7 && f OP_ZERO
   unfolding control_stage
-  sign_7 = and_two f NOT_SIGN_7 SIGN_7 (f NUMBER_7) (f OP_ZERO) (gate NOT_SIGN_7 refl) (gate SIGN_7 refl)
+  sign_7 = both (gate NOT_SIGN_7 refl) (gate SIGN_7 refl) refl refl
 
   pub sign_8 : f SIGN_8 ≡ f NUMBER_8 && f OP_ZERO
   unfolding control_stage
-  sign_8 = and_two f NOT_SIGN_8 SIGN_8 (f NUMBER_8) (f OP_ZERO) (gate NOT_SIGN_8 refl) (gate SIGN_8 refl)
+  sign_8 = both (gate NOT_SIGN_8 refl) (gate SIGN_8 refl) refl refl
 
   pub control : (o0 o1 o2 o3 p1 p2 : Bool) → f OP_0 ≡ o0 → f OP_1 ≡ o1 → f OP_2 ≡ o2 → f OP_3 ≡ o3 → f PHASE_1 ≡ p1 → f PHASE_2 ≡ p2 → Control f o0 o1 o2 o3 p1 p2
   unfolding control_stage
@@ -106,23 +110,23 @@ module _ (f : ℕ → Bool) (q : Obeys f control_start control_stage) where
       let m1 : f NOT_PHASE_1 ≡ not p1 = inverts_one f NOT_PHASE_1 PHASE_1 (gate NOT_PHASE_1 refl) ∙ ap not h1 in
       let from-4-is : f FROM_4 ≡ at_least_4 o2 o3 = gate FROM_4 refl ∙ ap₂ nand n3 n2 in
       let below-4-is : f BELOW_4 ≡ not (at_least_4 o2 o3) = inverts_one f BELOW_4 FROM_4 (gate BELOW_4 refl) ∙ ap not from-4-is in
-      let ops-8-to-11-is : f OPS_8_TO_11 ≡ o3 && not o2 = and_two f NOT_8_TO_11 OPS_8_TO_11 o3 (not o2) (gate NOT_8_TO_11 refl ∙ ap₂ nand e3 n2) (gate OPS_8_TO_11 refl) in
-      let ends-01-is : f ENDS_01 ≡ not o1 && o0 = and_two f NOT_ENDS_01 ENDS_01 (not o1) o0 (gate NOT_ENDS_01 refl ∙ ap₂ nand n1 e0) (gate ENDS_01 refl) in
-      let op-zero-is : f OP_ZERO ≡ is_zero_op o0 o1 o2 o3 = and_two f NOT_ZERO OP_ZERO (o3 && not o2) (not o1 && o0) (gate NOT_ZERO refl ∙ ap₂ nand ops-8-to-11-is ends-01-is) (gate OP_ZERO refl) in
+      let ops-8-to-11-is : f OPS_8_TO_11 ≡ o3 && not o2 = both (gate NOT_8_TO_11 refl) (gate OPS_8_TO_11 refl) e3 n2 in
+      let ends-01-is : f ENDS_01 ≡ not o1 && o0 = both (gate NOT_ENDS_01 refl) (gate ENDS_01 refl) n1 e0 in
+      let op-zero-is : f OP_ZERO ≡ is_zero_op o0 o1 o2 o3 = both (gate NOT_ZERO refl) (gate OP_ZERO refl) ops-8-to-11-is ends-01-is in
       let not-zero-is : f NOT_ZERO ≡ not (is_zero_op o0 o1 o2 o3) = gate NOT_ZERO refl ∙ ap₂ nand ops-8-to-11-is ends-01-is in
-      let odd-below-4-is : f ODD_BELOW_4 ≡ not (at_least_4 o2 o3) && o0 = and_two f NOT_ODD_BELOW_4 ODD_BELOW_4 (not (at_least_4 o2 o3)) o0 (gate NOT_ODD_BELOW_4 refl ∙ ap₂ nand below-4-is e0) (gate ODD_BELOW_4 refl) in
+      let odd-below-4-is : f ODD_BELOW_4 ≡ not (at_least_4 o2 o3) && o0 = both (gate NOT_ODD_BELOW_4 refl) (gate ODD_BELOW_4 refl) below-4-is e0 in
       let not-subtract-is : f NOT_SUBTRACT ≡ not (subtracting o0 o2 o3 p2) = gate NOT_SUBTRACT refl ∙ ap₂ nand h2 odd-below-4-is in
-      let ends-00-is : f ENDS_00 ≡ not o1 && not o0 = and_two f NOT_ENDS_00 ENDS_00 (not o1) (not o0) (gate NOT_ENDS_00 refl ∙ ap₂ nand n1 n0) (gate ENDS_00 refl) in
-      let op-store-is : f OP_STORE ≡ (o3 && not o2) && (not o1 && not o0) = and_two f NOT_OP_STORE OP_STORE (o3 && not o2) (not o1 && not o0) (gate NOT_OP_STORE refl ∙ ap₂ nand ops-8-to-11-is ends-00-is) (gate OP_STORE refl) in
-      let ops-12-to-15-is : f OPS_12_TO_15 ≡ o3 && o2 = and_two f NOT_12_TO_15 OPS_12_TO_15 o3 o2 (gate NOT_12_TO_15 refl ∙ ap₂ nand e3 e2) (gate OPS_12_TO_15 refl) in
-      let op-out-is : f OP_OUT ≡ (o3 && o2) && (not o1 && not o0) = and_two f NOT_OP_OUT OP_OUT (o3 && o2) (not o1 && not o0) (gate NOT_OP_OUT refl ∙ ap₂ nand ops-12-to-15-is ends-00-is) (gate OP_OUT refl) in
-      let ends-11-is : f ENDS_11 ≡ o1 && o0 = and_two f NOT_ENDS_11 ENDS_11 o1 o0 (gate NOT_ENDS_11 refl ∙ ap₂ nand e1 e0) (gate ENDS_11 refl) in
-      let op-in-is : f OP_IN ≡ (o3 && not o2) && (o1 && o0) = and_two f NOT_OP_IN OP_IN (o3 && not o2) (o1 && o0) (gate NOT_OP_IN refl ∙ ap₂ nand ops-8-to-11-is ends-11-is) (gate OP_IN refl) in
-      let ends-10-is : f ENDS_10 ≡ o1 && not o0 = and_two f NOT_ENDS_10 ENDS_10 o1 (not o0) (gate NOT_ENDS_10 refl ∙ ap₂ nand e1 n0) (gate ENDS_10 refl) in
-      let op-jump-is : f OP_JUMP ≡ (o3 && not o2) && (o1 && not o0) = and_two f NOT_OP_JUMP OP_JUMP (o3 && not o2) (o1 && not o0) (gate NOT_OP_JUMP refl ∙ ap₂ nand ops-8-to-11-is ends-10-is) (gate OP_JUMP refl) in
-      let odd-12-to-15-is : f ODD_12_TO_15 ≡ (o3 && o2) && o0 = and_two f NOT_ODD_12_TO_15 ODD_12_TO_15 (o3 && o2) o0 (gate NOT_ODD_12_TO_15 refl ∙ ap₂ nand ops-12-to-15-is e0) (gate ODD_12_TO_15 refl) in
-      let high-12-to-15-is : f HIGH_12_TO_15 ≡ (o3 && o2) && o1 = and_two f NOT_HIGH_12_TO_15 HIGH_12_TO_15 (o3 && o2) o1 (gate NOT_HIGH_12_TO_15 refl ∙ ap₂ nand ops-12-to-15-is e1) (gate HIGH_12_TO_15 refl) in
-      let ops-4-to-7-is : f OPS_4_TO_7 ≡ not o3 && o2 = and_two f NOT_4_TO_7 OPS_4_TO_7 (not o3) o2 (gate NOT_4_TO_7 refl ∙ ap₂ nand n3 e2) (gate OPS_4_TO_7 refl) in
+      let ends-00-is : f ENDS_00 ≡ not o1 && not o0 = both (gate NOT_ENDS_00 refl) (gate ENDS_00 refl) n1 n0 in
+      let op-store-is : f OP_STORE ≡ (o3 && not o2) && (not o1 && not o0) = both (gate NOT_OP_STORE refl) (gate OP_STORE refl) ops-8-to-11-is ends-00-is in
+      let ops-12-to-15-is : f OPS_12_TO_15 ≡ o3 && o2 = both (gate NOT_12_TO_15 refl) (gate OPS_12_TO_15 refl) e3 e2 in
+      let op-out-is : f OP_OUT ≡ (o3 && o2) && (not o1 && not o0) = both (gate NOT_OP_OUT refl) (gate OP_OUT refl) ops-12-to-15-is ends-00-is in
+      let ends-11-is : f ENDS_11 ≡ o1 && o0 = both (gate NOT_ENDS_11 refl) (gate ENDS_11 refl) e1 e0 in
+      let op-in-is : f OP_IN ≡ (o3 && not o2) && (o1 && o0) = both (gate NOT_OP_IN refl) (gate OP_IN refl) ops-8-to-11-is ends-11-is in
+      let ends-10-is : f ENDS_10 ≡ o1 && not o0 = both (gate NOT_ENDS_10 refl) (gate ENDS_10 refl) e1 n0 in
+      let op-jump-is : f OP_JUMP ≡ (o3 && not o2) && (o1 && not o0) = both (gate NOT_OP_JUMP refl) (gate OP_JUMP refl) ops-8-to-11-is ends-10-is in
+      let odd-12-to-15-is : f ODD_12_TO_15 ≡ (o3 && o2) && o0 = both (gate NOT_ODD_12_TO_15 refl) (gate ODD_12_TO_15 refl) ops-12-to-15-is e0 in
+      let high-12-to-15-is : f HIGH_12_TO_15 ≡ (o3 && o2) && o1 = both (gate NOT_HIGH_12_TO_15 refl) (gate HIGH_12_TO_15 refl) ops-12-to-15-is e1 in
+      let ops-4-to-7-is : f OPS_4_TO_7 ≡ not o3 && o2 = both (gate NOT_4_TO_7 refl) (gate OPS_4_TO_7 refl) n3 e2 in
       let not-jump-or-in-is : f NOT_JUMP_OR_IN ≡ nand (o3 && not o2) o1 = gate NOT_JUMP_OR_IN refl ∙ ap₂ nand ops-8-to-11-is e1 in
       let op-writes-is : f OP_WRITES ≡ nand o3 (nand (o3 && not o2) o1) = gate OP_WRITES refl ∙ ap₂ nand e3 not-jump-or-in-is in
       record {
@@ -130,16 +134,16 @@ module _ (f : ℕ → Bool) (q : Obeys f control_start control_stage) where
         below_4 = below-4-is;
         op_zero = op-zero-is;
         first_is_counter = gate FIRST_IS_COUNTER refl ∙ ap₂ nand m1 not-zero-is;
-        subtract = and_two f NOT_SUBTRACT SUBTRACT p2 (not (at_least_4 o2 o3) && o0) (gate NOT_SUBTRACT refl ∙ ap₂ nand h2 odd-below-4-is) (gate SUBTRACT refl);
+        subtract = both (gate NOT_SUBTRACT refl) (gate SUBTRACT refl) h2 odd-below-4-is;
         carry_in = gate CARRY_IN refl ∙ ap₂ nand m1 not-subtract-is;
-        second_is_port = and_two f NOT_SECOND_IS_PORT SECOND_IS_PORT p2 (not (at_least_4 o2 o3)) (gate NOT_SECOND_IS_PORT refl ∙ ap₂ nand h2 below-4-is) (gate SECOND_IS_PORT refl);
-        second_is_number = and_two f NOT_SECOND_IS_NUMBER SECOND_IS_NUMBER p2 (at_least_4 o2 o3) (gate NOT_SECOND_IS_NUMBER refl ∙ ap₂ nand h2 from-4-is) (gate SECOND_IS_NUMBER refl);
-        store = and_two f NOT_STORE STORE p2 ((o3 && not o2) && (not o1 && not o0)) (gate NOT_STORE refl ∙ ap₂ nand h2 op-store-is) (gate STORE refl);
-        emit = and_two f NOT_EMIT EMIT p2 ((o3 && o2) && (not o1 && not o0)) (gate NOT_EMIT refl ∙ ap₂ nand h2 op-out-is) (gate EMIT refl);
-        take = and_two f NOT_TAKE TAKE p2 ((o3 && not o2) && (o1 && o0)) (gate NOT_TAKE refl ∙ ap₂ nand h2 op-in-is) (gate TAKE refl);
-        jump = and_two f NOT_JUMP JUMP p2 ((o3 && not o2) && (o1 && not o0)) (gate NOT_JUMP refl ∙ ap₂ nand h2 op-jump-is) (gate JUMP refl);
-        halt_0 = and_two f NOT_HALT_0 HALT_0 p2 ((o3 && o2) && o0) (gate NOT_HALT_0 refl ∙ ap₂ nand h2 odd-12-to-15-is) (gate HALT_0 refl);
-        halt_1 = and_two f NOT_HALT_1 HALT_1 p2 ((o3 && o2) && o1) (gate NOT_HALT_1 refl ∙ ap₂ nand h2 high-12-to-15-is) (gate HALT_1 refl);
-        load = and_two f NOT_OP_LOAD LOAD (not o3 && o2) (o1 && o0) (gate NOT_OP_LOAD refl ∙ ap₂ nand ops-4-to-7-is ends-11-is) (gate LOAD refl);
-        write = and_two f NOT_WRITE WRITE p2 (nand o3 (nand (o3 && not o2) o1)) (gate NOT_WRITE refl ∙ ap₂ nand h2 op-writes-is) (gate WRITE refl);
+        second_is_port = both (gate NOT_SECOND_IS_PORT refl) (gate SECOND_IS_PORT refl) h2 below-4-is;
+        second_is_number = both (gate NOT_SECOND_IS_NUMBER refl) (gate SECOND_IS_NUMBER refl) h2 from-4-is;
+        store = both (gate NOT_STORE refl) (gate STORE refl) h2 op-store-is;
+        emit = both (gate NOT_EMIT refl) (gate EMIT refl) h2 op-out-is;
+        take = both (gate NOT_TAKE refl) (gate TAKE refl) h2 op-in-is;
+        jump = both (gate NOT_JUMP refl) (gate JUMP refl) h2 op-jump-is;
+        halt_0 = both (gate NOT_HALT_0 refl) (gate HALT_0 refl) h2 odd-12-to-15-is;
+        halt_1 = both (gate NOT_HALT_1 refl) (gate HALT_1 refl) h2 high-12-to-15-is;
+        load = both (gate NOT_OP_LOAD refl) (gate LOAD refl) ops-4-to-7-is ends-11-is;
+        write = both (gate NOT_WRITE refl) (gate WRITE refl) h2 op-writes-is;
       }

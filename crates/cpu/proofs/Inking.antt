@@ -20,16 +20,16 @@ drop_further m n xs ys l e =
 pub begun_none : (w0 : List ℕ) (at : ℕ) (all : List ℕ) → Begun w0 at all w0 at all
 begun_none w0 at all = record { put = refl; kept = refl }
 
-pub begun_more : (w0 : List ℕ) (at : ℕ) (all w : List ℕ) (n : ℕ) (rest xs rest' w' : List ℕ) (n' : ℕ) → Begun w0 at all w n rest → rest ≡ xs ++ rest' → Drew w n xs w' → n + length xs ≡ n' → Begun w0 at all w' n' rest'
-begun_more w0 at all w n rest xs rest' w' n' p e d m =
+pub begun_more : {w0 : List ℕ} {at : ℕ} {all w : List ℕ} {n : ℕ} {rest xs rest' w' : List ℕ} {n' : ℕ} → Begun w0 at all w n rest → rest ≡ xs ++ rest' → Drew w n xs w' → n + length xs ≡ n' → Begun w0 at all w' n' rest'
+begun_more {w0} {at} {all} {w} {n} {rest} {xs} {rest'} {w'} {n'} p e d m =
     let le : n ≤ n + length xs = omega arith in
     subst (λ k. Begun w0 at all w' k rest') m (record {
       put = ap (λ t. t ++ rest') d.put ∙ (append_assoc (take n w) xs rest' ∙ (ap (λ t. take n w ++ t) (sym e) ∙ p.put));
       kept = d.kept ∙ drop_further n (n + length xs) w w0 le p.kept;
     })
 
-pub begun_all : (w0 : List ℕ) (at : ℕ) (all w : List ℕ) (n : ℕ) (rest : List ℕ) → Begun w0 at all w n rest → rest ≡ [] → n ≡ at + length all → Drew w0 at all w
-begun_all w0 at all w n rest p e m =
+pub begun_all : {w0 : List ℕ} {at : ℕ} {all w : List ℕ} {n : ℕ} {rest : List ℕ} → Begun w0 at all w n rest → rest ≡ [] → n ≡ at + length all → Drew w0 at all w
+begun_all {w0} {at} {all} {w} {n} {rest} p e m =
     subst (λ k. (take k w ≡ take at w0 ++ all) → (drop k w ≡ drop k w0) → Drew w0 at all w) (sym m) (λ a b. record { put = a; kept = b })
     (sym (append-nil (take n w)) ∙ (ap (λ t. take n w ++ t) (sym e) ∙ p.put)) p.kept
 
@@ -46,10 +46,6 @@ put_two w at a b l =
           ∙ (ap (λ t. t ++ (b ∷ [])) (take_more_set w at a l1) ∙ append_assoc (take at w) (a ∷ []) (b ∷ [])));
       kept = drop-set-lt (at + 2) (set w at a) (at + 1) b n1 ∙ drop-set-lt (at + 2) w at a n0;
     }
-
--- one number
-pub put_one : (w : List ℕ) (at a : ℕ) → at < length w → Drew w at (a ∷ []) (set w at a)
-put_one w at a l = record { put = take_more_set w at a l; kept = drop-set-lt (at + 1) w at a (omega arith) }
 
 -- a drawing on the part of a sheet that starts at m is one on the sheet
 pub drew_part : (w : List ℕ) (m : ℕ) (xs ys : List ℕ) → m ≤ length w → Drew (take (length w - m) (drop m w)) 0 xs ys → Drew w m xs (put_mid m (length w - m) w ys)
@@ -72,11 +68,11 @@ drew_part w m xs ys l d =
 -- two drawings one behind the other
 pub drew_both : (w : List ℕ) (at : ℕ) (xs w1 : List ℕ) (n : ℕ) (ys w2 : List ℕ) → Drew w at xs w1 → at + length xs ≡ n → Drew w1 n ys w2 → Drew w at (xs ++ ys) w2
 drew_both w at xs w1 n ys w2 d e f =
-    let p = begun_more w at (xs ++ ys) w at (xs ++ ys) xs ys w1 n (begun_none w at (xs ++ ys)) refl d e in
+    let p : Begun w at (xs ++ ys) w1 n ys = begun_more (begun_none w at (xs ++ ys)) refl d e in
     let y : ys ≡ ys ++ [] = sym (append-nil ys) in
-    let q = begun_more w at (xs ++ ys) w1 n ys ys [] w2 (n + length ys) p y f refl in
+    let q : Begun w at (xs ++ ys) w2 (n + length ys) [] = begun_more p y f refl in
     let m : n + length ys ≡ at + length (xs ++ ys) = omega (arith, length-append xs ys, e) in
-    begun_all w at (xs ++ ys) w2 (n + length ys) [] q refl m
+    begun_all q refl m
 
 -- what was drawn at the front is no longer than the sheet
 take_short : (n : ℕ) (xs : List ℕ) → length (take n xs) ≤ length xs
@@ -88,8 +84,8 @@ drew_fits : (w xs w1 : List ℕ) → Drew w 0 xs w1 → length xs ≤ length w1
 drew_fits w xs w1 d = let e = ap length d.put in let s = take_short (0 + length xs) w1 in omega arith
 
 -- numbers drawn behind what stands already at the front
-pub drew_behind : (w xs w1 : List ℕ) (n : ℕ) (ys y2 : List ℕ) → Drew w 0 xs w1 → length xs ≡ n → Drew (take (length w1 - n) (drop n w1)) 0 ys y2 → Drew w 0 (xs ++ ys) (put_mid n (length w1 - n) w1 y2)
-drew_behind w xs w1 n ys y2 d e f =
+pub behind : {w xs w1 ys y2 : List ℕ} (n : ℕ) → length xs ≡ n → Drew w 0 xs w1 → Drew (take (length w1 - n) (drop n w1)) 0 ys y2 → Drew w 0 (xs ++ ys) (put_mid n (length w1 - n) w1 y2)
+behind {w} {xs} {w1} {ys} {y2} n e d f =
     let z : 0 + length xs ≡ n = omega arith in
     let l : n ≤ length w1 = omega (arith, drew_fits w xs w1 d) in
     drew_both w 0 xs w1 n ys (put_mid n (length w1 - n) w1 y2) d z (drew_part w1 n ys y2 l f)
@@ -101,11 +97,3 @@ ink_append (g ∷ xs) ys = ap (λ t. g.0 ∷ (g.1 ∷ t)) (ink_append xs ys)
 pub ink_length : (xs : Gates) → length (ink xs) ≡ 2 * length xs
 ink_length [] = refl
 ink_length (g ∷ xs) = omega (arith, ink_length xs)
-
--- a part drawn with words that are those of the drawing
-pub drew_by : (w : List ℕ) (at : ℕ) (xs ys w1 : List ℕ) → xs ≡ ys → Drew w at xs w1 → Drew w at ys w1
-drew_by w at xs ys w1 e d = subst (λ (u : List ℕ). Drew w at u w1) e d
-
--- the same, drawn behind what stands already at the front
-pub drew_then : (w xs w1 : List ℕ) (n : ℕ) (zs ys y2 : List ℕ) → Drew w 0 xs w1 → length xs ≡ n → zs ≡ ys → Drew (take (length w1 - n) (drop n w1)) 0 zs y2 → Drew w 0 (xs ++ ys) (put_mid n (length w1 - n) w1 y2)
-drew_then w xs w1 n zs ys y2 d e z f = drew_behind w xs w1 n ys y2 d e (drew_by (take (length w1 - n) (drop n w1)) 0 zs ys y2 z f)

@@ -10,7 +10,8 @@ pub mod Execute
 pub mod Simulation
 pub mod IsMachine
 pub mod Inking
-pub mod Loops
+pub mod Arrays
+pub mod BitByBit
 pub mod PortLoops
 pub mod OnSheet
 pub mod AfterStore

@@ -1,5 +1,6 @@
 -- Numbers written onto a sheet.
-use Rattle.std.specs.Prelude.{◌≡◌, ℕ, ◌+◌, ◌*◌, List, [], ◌∷◌, ◌++◌, length, take, drop}
+use Rattle.std.specs.Prelude.{◌≡◌, ℕ, ◌+◌, ◌*◌, List, [], ◌∷◌, ◌++◌, length, take, drop, map}
+use Rattle.std.specs.List.{range_with_len}
 use Rattle.circuit.specs.Parts.{Gates}
 
 -- gates as numbers, two for each
@@ -14,6 +15,4 @@ pub record Drew (before : List ℕ) (at : ℕ) (xs after : List ℕ) : Type 0 wh
 
 -- a word of sixteen signals, each so many after the one before
 abbrev pub spaced : ℕ → ℕ → List ℕ
-spaced n k =
-    n ∷ (n + k) ∷ (n + 2 * k) ∷ (n + 3 * k) ∷ (n + 4 * k) ∷ (n + 5 * k) ∷ (n + 6 * k) ∷ (n + 7 * k) ∷
-    (n + 8 * k) ∷ (n + 9 * k) ∷ (n + 10 * k) ∷ (n + 11 * k) ∷ (n + 12 * k) ∷ (n + 13 * k) ∷ (n + 14 * k) ∷ (n + 15 * k) ∷ []
+spaced n k = map (λ i. n + i * k) (range_with_len 0 16)

@@ -1,10 +1,10 @@
 -- What draw promises.
-use Rattle.std.specs.Prelude.{◌≡◌, ℕ, ◌<◌, ◌≤◌, List, length, drop}
+use Rattle.std.specs.Prelude.{◌≡◌, ℕ, ◌<◌, ◌≤◌, List, length, drop, Result, Ok, Err}
 use Rattle.circuit.specs.Sheet.{drawn, sheet_size}
 use Rattle.drawing.specs.Drawing.{IsMachine, course_cycles}
 use Rattle.cpu.specs.Signals.{flop_count, gate_count}
-use Rattle.cpu.specs.declared.Drawn.{Drawn}
-use Rattle.cpu.specs.declared.Drawn.TheVariants.{Sheet, NoRoom}
+use Rattle.cpu.specs.declared.Size.{Size}
+use Rattle.cpu.specs.declared.NoRoom.{NoRoom}
 
 -- the numbers that a sheet must have room for
 abbrev pub sheet_room : ℕ
@@ -24,6 +24,6 @@ pub record Refuses (before after : List ℕ) : Type 0 where
   pub no_room : length before < sheet_room
   pub untouched : after ≡ before
 
-abbrev pub DrawPromise : List ℕ → List ℕ → Drawn → Type 0
-DrawPromise before after (Sheet f k) = Draws before after f k
-DrawPromise before after NoRoom = Refuses before after
+abbrev pub DrawPromise : List ℕ → List ℕ → Result Size NoRoom → Type 0
+DrawPromise before after (Ok size) = Draws before after size.flops size.gates
+DrawPromise before after (Err none) = Refuses before after

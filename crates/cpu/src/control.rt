@@ -82,9 +82,10 @@ const CONTROL_GATES: [(u32, u32); 72] = [
 ];
 
 // The control lines, from the operation's bits and the phases.
+#[tactic(auto, unfolding(crate::specs::Control::control_stage))]
 pub(crate) fn draw_control(sheet: &mut [u32])
     requires room { 144 ≤ length sheet.old }
     ensures { Drew sheet.old 0 (ink control_stage) sheet.new }
 {
-    put_gates(sheet, 0, &CONTROL_GATES);
+    put_gates(sheet, &CONTROL_GATES);
 }

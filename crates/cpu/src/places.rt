@@ -5,6 +5,7 @@ ghost use Rattle.cpu.specs.Cpu.{stages, stage_places};
 
 use crate::signals::*;
 
+#[tactic(auto, unfolding(crate::proofs::Drawing::drawing))]
 pub fn places() -> [(u32, u32); 26]
     ensures { result ≡ stage_places control_start stages }
 {

@@ -1,6 +1,10 @@
 // The drawing's signals by name, as in specs/Signals and specs/Control: what comes in, the flip-flops, the control lines, and
 // where each stage begins.
 
+// A line and its inverse.
+#[derive(Clone, Copy)]
+pub(crate) struct Line(pub(crate) u32, pub(crate) u32);
+
 // always low, always high; the word that memory hands over and the tape's next word, each by its lowest bit
 pub(crate) const LOW: u32 = 0;
 
@@ -286,34 +290,34 @@ pub(crate) const HIGH_WORD: [u32; 16] = [
     601, 604, 607, 610, 613, 616, 619, 622, 2, 3, 4, 5, 6, 7, 8, 9,
 ];
 
-// the index of the register that is read, on the way and at its end, with the inverses of its lines
+// the index of the register that is read, on the way and at its end, with its lines
 pub(crate) const LATE_INDEX: [u32; 3] = [292, 295, 298];
 
 pub(crate) const INDEX: [u32; 3] = [301, 304, 307];
 
-pub(crate) const NOT_INDEX: [u32; 3] = [308, 309, 310];
+pub(crate) const INDEX_LINES: [Line; 3] = [Line(301, 308), Line(304, 309), Line(307, 310)];
 
-// the decoder's lines with their inverses: one, two, four, eight
-pub(crate) const ONE_LINE: [(u32, u32); 1] = [(WRITES, NOT_WRITES)];
+// the decoder's lines: one, two, four, eight
+pub(crate) const ONE_LINE: [Line; 1] = [Line(WRITES, NOT_WRITES)];
 
-pub(crate) const TWO_LINES: [(u32, u32); 2] = [(1405, 1404), (1407, 1406)];
+pub(crate) const TWO_LINES: [Line; 2] = [Line(1405, 1404), Line(1407, 1406)];
 
-pub(crate) const FOUR_LINES: [(u32, u32); 4] = [
-    (1409, 1408),
-    (1411, 1410),
-    (1413, 1412),
-    (1415, 1414),
+pub(crate) const FOUR_LINES: [Line; 4] = [
+    Line(1409, 1408),
+    Line(1411, 1410),
+    Line(1413, 1412),
+    Line(1415, 1414),
 ];
 
-pub(crate) const EIGHT_LINES: [(u32, u32); 8] = [
-    (1417, 1416),
-    (1419, 1418),
-    (1421, 1420),
-    (1423, 1422),
-    (1425, 1424),
-    (1427, 1426),
-    (1429, 1428),
-    (1431, 1430),
+pub(crate) const EIGHT_LINES: [Line; 8] = [
+    Line(1417, 1416),
+    Line(1419, 1418),
+    Line(1421, 1420),
+    Line(1423, 1422),
+    Line(1425, 1424),
+    Line(1427, 1426),
+    Line(1429, 1428),
+    Line(1431, 1430),
 ];
 
 // the carry out of the adder; whether the first word is less; whether the port is 0
@@ -341,3 +345,34 @@ pub(crate) const NOT_TARGET_1: u32 = 1401;
 pub(crate) const NOT_TARGET_2: u32 = 1402;
 
 pub(crate) const NOT_WRITES: u32 = 1403;
+
+// the lines that choose one of two words: of the adder's first words the program counter, of its second the number
+pub(crate) const OP_0_LINE: Line = Line(OP_0, NOT_OP_0);
+
+pub(crate) const OP_1_LINE: Line = Line(OP_1, NOT_OP_1);
+
+pub(crate) const OP_2_LINE: Line = Line(OP_2, NOT_OP_2);
+
+pub(crate) const OP_3_LINE: Line = Line(OP_3, NOT_OP_3);
+
+pub(crate) const FROM_4_LINE: Line = Line(FROM_4, BELOW_4);
+
+pub(crate) const PHASE_1_LINE: Line = Line(PHASE_1, NOT_PHASE_1);
+
+pub(crate) const PHASE_2_LINE: Line = Line(PHASE_2, NOT_PHASE_2);
+
+pub(crate) const FIRST_LINE: Line = Line(FIRST_IS_COUNTER, FIRST_IS_OPERAND);
+
+pub(crate) const SECOND_LINE: Line = Line(SECOND_IS_NUMBER, SECOND_IS_PORT);
+
+pub(crate) const LOADS_LINE: Line = Line(LOADS, NOT_LOADS);
+
+pub(crate) const JUMP_LINE: Line = Line(JUMP, NOT_JUMP);
+
+pub(crate) const TO_SUM_LINE: Line = Line(TO_SUM, NOT_TO_SUM);
+
+pub(crate) const TARGET_0_LINE: Line = Line(TARGET_0, NOT_TARGET_0);
+
+pub(crate) const TARGET_1_LINE: Line = Line(TARGET_1, NOT_TARGET_1);
+
+pub(crate) const TARGET_2_LINE: Line = Line(TARGET_2, NOT_TARGET_2);

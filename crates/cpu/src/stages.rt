@@ -8,7 +8,7 @@ ghost use Rattle.cpu.specs.Ink.{ink, Drew};
 
 use crate::parts::{
     draw_adder, draw_invert_if, draw_inverters, draw_mux, draw_nands, draw_zero_test, every,
-    put_gates,
+    put_gates, words,
 };
 use crate::ports::{draw_keep, draw_level, draw_split};
 use crate::signals::*;
@@ -30,20 +30,15 @@ pub(crate) fn draw_read(sheet: &mut [u32])
 {
     let r = AT_READ;
     let eight = registers();
-    let four = [
-        every(r + 2, 3),
-        every(r + 50, 3),
-        every(r + 98, 3),
-        every(r + 146, 3),
-    ];
-    let two = [every(r + 194, 3), every(r + 242, 3)];
-    draw_mux(sheet, AT_LATE_INDEX, FROM_4, BELOW_4, &FIELD_D, &FIELD_B);
+    let four: [[u32; 16]; 4] = words(r + 2, 48, 3);
+    let two: [[u32; 16]; 2] = words(r + 194, 48, 3);
+    draw_mux(sheet, AT_LATE_INDEX, FROM_4_LINE, &FIELD_D, &FIELD_B);
     let part = &mut sheet[18..];
-    draw_mux(part, AT_INDEX, PHASE_1, NOT_PHASE_1, &FIELD_A, &LATE_INDEX);
+    draw_mux(part, AT_INDEX, PHASE_1_LINE, &FIELD_A, &LATE_INDEX);
     draw_inverters(&mut sheet[36..], AT_SELECT, &INDEX);
-    draw_level(&mut sheet[42..], r, INDEX[0], NOT_INDEX[0], &eight);
-    draw_level(&mut sheet[426..], r + 192, INDEX[1], NOT_INDEX[1], &four);
-    draw_level(&mut sheet[618..], r + 288, INDEX[2], NOT_INDEX[2], &two);
+    draw_level(&mut sheet[42..], r, INDEX_LINES[0], &eight);
+    draw_level(&mut sheet[426..], r + 192, INDEX_LINES[1], &four);
+    draw_level(&mut sheet[618..], r + 288, INDEX_LINES[2], &two);
 }
 
 // The adder with its two words, NAND, less, and the zero test.
@@ -57,23 +52,9 @@ pub(crate) fn draw_arithmetic(sheet: &mut [u32])
     let first = every(AT_FIRST + 2, 3);
     let second = every(AT_SECOND + 2, 3);
     let addend = every(AT_ADDEND + 3, 4);
-    draw_mux(
-        sheet,
-        AT_FIRST,
-        FIRST_IS_COUNTER,
-        FIRST_IS_OPERAND,
-        &counter,
-        &operand,
-    );
+    draw_mux(sheet, AT_FIRST, FIRST_LINE, &counter, &operand);
     let part = &mut sheet[96..];
-    draw_mux(
-        part,
-        AT_SECOND,
-        SECOND_IS_NUMBER,
-        SECOND_IS_PORT,
-        &NUMBER_WORD,
-        &port,
-    );
+    draw_mux(part, AT_SECOND, SECOND_LINE, &NUMBER_WORD, &port);
     draw_invert_if(&mut sheet[192..], AT_ADDEND, SUBTRACT, &second);
     draw_adder(&mut sheet[320..], AT_ADDER, &first, &addend, CARRY_IN);
     draw_nands(&mut sheet[608..], AT_NAND, &operand, &port);
@@ -96,19 +77,19 @@ pub(crate) fn draw_result(sheet: &mut [u32])
     let from_4 = every(AT_FROM_4 + 2, 3);
     let below_8 = every(AT_BELOW_8 + 2, 3);
     let from_8 = every(AT_FROM_8 + 2, 3);
-    draw_mux(sheet, AT_NAND_OR_LESS, OP_0, NOT_OP_0, &LESS_WORD, &nanded);
+    draw_mux(sheet, AT_NAND_OR_LESS, OP_0_LINE, &LESS_WORD, &nanded);
     let part = &mut sheet[96..];
-    draw_mux(part, AT_HALF_OR_LOW, OP_0, NOT_OP_0, &LOW_WORD, &HALF_WORD);
+    draw_mux(part, AT_HALF_OR_LOW, OP_0_LINE, &LOW_WORD, &HALF_WORD);
     let part = &mut sheet[192..];
-    draw_mux(part, AT_BELOW_4, OP_1, NOT_OP_1, &nand_or_less, &sum);
+    draw_mux(part, AT_BELOW_4, OP_1_LINE, &nand_or_less, &sum);
     let part = &mut sheet[288..];
-    draw_mux(part, AT_FROM_4, OP_1, NOT_OP_1, &HIGH_WORD, &half_or_low);
+    draw_mux(part, AT_FROM_4, OP_1_LINE, &HIGH_WORD, &half_or_low);
     let part = &mut sheet[384..];
-    draw_mux(part, AT_BELOW_8, OP_2, NOT_OP_2, &from_4, &below_4);
+    draw_mux(part, AT_BELOW_8, OP_2_LINE, &from_4, &below_4);
     let part = &mut sheet[480..];
-    draw_mux(part, AT_FROM_8, OP_0, NOT_OP_0, &tape, &counter);
+    draw_mux(part, AT_FROM_8, OP_0_LINE, &tape, &counter);
     let part = &mut sheet[576..];
-    draw_mux(part, AT_RESULT, OP_3, NOT_OP_3, &from_8, &below_8);
+    draw_mux(part, AT_RESULT, OP_3_LINE, &from_8, &below_8);
 }
 
 // The write port: the word from memory or the result, into the register that was kept.
@@ -122,17 +103,11 @@ pub(crate) fn draw_write(sheet: &mut [u32])
     let written = every(AT_WRITTEN + 2, 3);
     let registers = registers();
     let select = [TARGET_0, TARGET_1, TARGET_2, WRITES];
-    draw_mux(sheet, AT_WRITTEN, LOADS, NOT_LOADS, &instruction, &result);
+    draw_mux(sheet, AT_WRITTEN, LOADS_LINE, &instruction, &result);
     draw_inverters(&mut sheet[96..], AT_WRITE_SELECT, &select);
-    draw_split(&mut sheet[104..], w, TARGET_2, NOT_TARGET_2, &ONE_LINE);
-    draw_split(&mut sheet[112..], w + 4, TARGET_1, NOT_TARGET_1, &TWO_LINES);
-    draw_split(
-        &mut sheet[128..],
-        w + 12,
-        TARGET_0,
-        NOT_TARGET_0,
-        &FOUR_LINES,
-    );
+    draw_split(&mut sheet[104..], w, TARGET_2_LINE, &ONE_LINE);
+    draw_split(&mut sheet[112..], w + 4, TARGET_1_LINE, &TWO_LINES);
+    draw_split(&mut sheet[128..], w + 12, TARGET_0_LINE, &FOUR_LINES);
     draw_keep(
         &mut sheet[160..],
         w + 28,
@@ -151,11 +126,11 @@ pub(crate) fn draw_counter(sheet: &mut [u32])
     let counter = program_counter();
     let sum = sum();
     let stay_or_jump = every(AT_JUMP + 2, 3);
-    put_gates(sheet, 0, &BRANCH_GATES);
+    put_gates(sheet, &BRANCH_GATES);
     let part = &mut sheet[10..];
-    draw_mux(part, AT_JUMP, JUMP, NOT_JUMP, &operand, &counter);
+    draw_mux(part, AT_JUMP, JUMP_LINE, &operand, &counter);
     let part = &mut sheet[106..];
-    draw_mux(part, AT_COUNTER, TO_SUM, NOT_TO_SUM, &sum, &stay_or_jump);
+    draw_mux(part, AT_COUNTER, TO_SUM_LINE, &sum, &stay_or_jump);
     let part = &mut sheet[202..];
-    draw_mux(part, AT_ADDRESS, PHASE_2, NOT_PHASE_2, &sum, &counter);
+    draw_mux(part, AT_ADDRESS, PHASE_2_LINE, &sum, &counter);
 }

@@ -1,9 +1,11 @@
 // Words of the drawing that several stages use: each a list of sixteen signals, lowest bit first.
+#![tactic(auto, unfolding(crate::proofs::Drawing::drawing))]
+
 ghost use Rattle.std.specs.Prelude.{◌≡◌};
 ghost use Rattle.cpu.specs.Signals.{PROGRAM_COUNTER, OPERAND, REGISTERS};
 ghost use Rattle.cpu.specs.Stages.{PORT, SUM};
 
-use crate::parts::every;
+use crate::parts::{every, words};
 use crate::signals::*;
 
 pub(crate) fn program_counter() -> [u32; 16]
@@ -35,14 +37,5 @@ pub(crate) fn sum() -> [u32; 16]
 pub(crate) fn registers() -> [[u32; 16]; 8]
     ensures { result ≡ REGISTERS }
 {
-    [
-        every(REGISTER_0, 1),
-        every(REGISTER_0 + 16, 1),
-        every(REGISTER_0 + 32, 1),
-        every(REGISTER_0 + 48, 1),
-        every(REGISTER_0 + 64, 1),
-        every(REGISTER_0 + 80, 1),
-        every(REGISTER_0 + 96, 1),
-        every(REGISTER_0 + 112, 1),
-    ]
+    words(REGISTER_0, 16, 1)
 }

@@ -13,7 +13,7 @@ pub fn number_below(text: &[u8], bound: u32) -> Option<u32>
     }
     let mut n: u32 = 0;
     for c in text {
-        if *c < 48 || *c > 57 {
+        if *c < b'0' || *c > b'9' {
             return None;
         }
         let more = 10 * n as u64 + (*c - 48) as u64;
@@ -29,8 +29,5 @@ pub fn number_below(text: &[u8], bound: u32) -> Option<u32>
 pub fn word(text: &[u8]) -> Option<u16>
     ensures { MatchOption result ((n : ℕ) → n < 65536 → Writes text.now n → ⊥) (λ n. Writes text.now n) }
 {
-    match number_below(text, 65536) {
-        Some(n) => Some(n as u16),
-        None => None,
-    }
+    Some(number_below(text, 65536)? as u16)
 }

@@ -2,33 +2,18 @@
 use machine::instruction::Instruction;
 use std::io::Write;
 
-fn name(op: u16) -> &'static str {
-    match op {
-        0 => "add",
-        1 => "sub",
-        2 => "nand",
-        3 => "less",
-        4 => "half",
-        5 => "low",
-        6 => "high",
-        7 => "load",
-        8 => "store",
-        9 => "zero",
-        10 => "jump",
-        11 => "in",
-        12 => "out",
-        13 => "done",
-        14 => "index",
-        _ => "full",
-    }
-}
+// The names of the operations, by their numbers.
+const NAMES: [&str; 16] = [
+    "add", "sub", "nand", "less", "half", "low", "high", "load", "store", "zero", "jump", "in",
+    "out", "done", "index", "full",
+];
 
 // The instruction's name, and its registers and numbers; how far a branch goes has a sign.
 fn write_instruction(out: &mut impl Write, i: Instruction) -> anyhow::Result<()> {
     let Instruction { op, d, a, b, n, m } = i;
-    let name = name(op);
+    let name = NAMES[op as usize];
     match op {
-        0 | 1 | 2 | 3 => writeln!(out, "{name} {d} {a} {b}")?,
+        0..=3 => writeln!(out, "{name} {d} {a} {b}")?,
         4 | 10 => writeln!(out, "{name} {d} {a}")?,
         5 => writeln!(out, "{name} {d} {n}")?,
         6 => {
@@ -54,7 +39,7 @@ fn write_instruction(out: &mut impl Write, i: Instruction) -> anyhow::Result<()>
 pub(crate) fn write_listing(out: &mut impl Write, image: &[u16]) -> anyhow::Result<()> {
     for (place, w) in image.iter().enumerate() {
         write!(out, "{place} {w} ")?;
-        write_instruction(out, Instruction::of(*w))?;
+        write_instruction(out, Instruction::from(*w))?;
     }
     Ok(())
 }

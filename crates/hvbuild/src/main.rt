@@ -4,11 +4,13 @@
 mod listing;
 mod used;
 
-use anyhow::anyhow;
-use compiler::{Made, build};
+use anyhow::bail;
+use compiler::build;
+use console::exit::finish;
+use console::text::read_text;
 use listing::write_listing;
 use std::env;
-use std::io::{self, BufWriter, Read, Write};
+use std::io::{self, BufWriter, Write};
 use std::process::ExitCode;
 use used::used_length;
 
@@ -24,32 +26,6 @@ outside the limits, is refused with a message on standard error and status 1.
 // A text has at most so many bytes.
 const MOST_TEXT: usize = 1048576;
 
-// Reads standard input into a buffer; how many bytes there were, up to the buffer's length.
-fn read_text(rt: &HostRuntime, buffer: &mut [u8]) -> anyhow::Result<usize> {
-    let mut input = rt.stdin();
-    let mut length: usize = 0;
-    while length < buffer.len() {
-        let got = input.read(&mut buffer[length..])?;
-        if got == 0 {
-            break;
-        }
-        length += got;
-    }
-    Ok(length)
-}
-
-// The text on standard input; a longer one than a text may be is refused.
-fn input(rt: &HostRuntime) -> anyhow::Result<Vec<u8>> {
-    let mut text = Vec::new(rt.alloc());
-    text.resize(MOST_TEXT + 1, 0)?;
-    let length = read_text(rt, text.as_mut_slice())?;
-    if length > MOST_TEXT {
-        return Err(anyhow!("the text has more than 1048576 bytes"));
-    }
-    text.truncate(length);
-    Ok(text)
-}
-
 fn write_words(out: &mut impl Write, image: &[u16]) -> anyhow::Result<()> {
     for w in image {
         writeln!(out, "{w}")?;
@@ -59,17 +35,11 @@ fn write_words(out: &mut impl Write, image: &[u16]) -> anyhow::Result<()> {
 
 // Builds the image and prints it.
 fn print_image(rt: &HostRuntime, listing: bool) -> anyhow::Result<()> {
-    let text = input(rt)?;
-    let mut image = Vec::new(rt.alloc());
-    image.resize(65536, 0u16)?;
-    match build(text.as_slice(), image.as_mut_slice()) {
-        Made::Image => {}
-        Made::NoProgram => return Err(anyhow!("no program: the text is not the writing of one")),
-        Made::Limits => return Err(anyhow!(
-            "limits: the program is larger than it may be, or names what is not there"
-        )),
-        Made::Short => return Err(anyhow!("the image has not 65536 words")),
-    }
+    let Some(text) = read_text(rt.alloc(), &mut rt.stdin(), MOST_TEXT)? else {
+        bail!("the text has more than {MOST_TEXT} bytes");
+    };
+    let mut image = vec![in rt.alloc(); 0u16; 65536]?;
+    build(text.as_slice(), image.as_mut_slice())?;
     let words = image.as_slice();
     let used = &words[0..used_length(words)];
     let mut out = BufWriter::new(rt.alloc(), rt.stdout())?;
@@ -82,36 +52,21 @@ fn print_image(rt: &HostRuntime, listing: bool) -> anyhow::Result<()> {
     Ok(())
 }
 
-// A refusal that names the option.
-fn unknown(rt: &HostRuntime, option: &str) -> anyhow::Error {
-    match format!(in rt.alloc(); "unknown option (--help lists them): '{option}'") {
-        Ok(text) => anyhow!("{text}"),
-        Err(e) => e.into(),
-    }
-}
-
 fn hvbuild(rt: &HostRuntime) -> anyhow::Result<()> {
     let mut listing = false;
     for arg in env::args(rt)?.skip(1) {
-        let option = arg.as_str();
-        if option == "--help" {
-            rt.println(HELP)?;
-            return Ok(());
+        match arg.as_str() {
+            "--help" => {
+                rt.println(HELP)?;
+                return Ok(());
+            }
+            "--listing" => listing = true,
+            option => bail!("unknown option (--help lists them): '{option}'"),
         }
-        if option != "--listing" {
-            return Err(unknown(rt, option));
-        }
-        listing = true;
     }
     print_image(rt, listing)
 }
 
 fn main(rt: HostRuntime) -> io::Result<ExitCode> {
-    match hvbuild(&rt) {
-        Ok(()) => Ok(ExitCode::SUCCESS),
-        Err(e) => {
-            eprintln!(rt; "hvbuild: {e}")?;
-            Ok(ExitCode::FAILURE)
-        }
-    }
+    finish(&rt, "hvbuild", hvbuild(&rt))
 }

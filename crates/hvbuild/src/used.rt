@@ -5,9 +5,8 @@ ghost use Rattle.hvbuild.specs.Used.{Used};
 pub(crate) fn used_length(image: &[u16]) -> usize
     ensures { Used image.now result }
 {
-    let mut n = image.len();
-    while n > 0 && image[n - 1] == 0 {
-        n -= 1;
+    match image.iter().rposition(|w| *w != 0) {
+        Some(last) => last + 1,
+        None => 0,
     }
-    n
 }

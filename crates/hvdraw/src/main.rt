@@ -6,11 +6,11 @@ mod rows;
 ghost use Rattle.std.specs.Prelude.{◌≡◌, ℕ, ◌^◌, ◌<◌};
 ghost use Rattle.circuit.specs.Sheet.{sheet_size};
 
-use anyhow::anyhow;
-use cpu::Drawn;
+use anyhow::bail;
+use console::exit::finish;
+use cpu::Size;
 use cpu::places::places;
 use rows::ROWS;
-use std::alloc::Global;
 use std::env;
 use std::io::{self, BufWriter, Write};
 use std::process::ExitCode;
@@ -33,51 +33,36 @@ enum Task {
     Help,
 }
 
-// A refusal that names what was given.
-fn refused(heap: Global, what: &str, given: &str) -> anyhow::Error {
-    match format!(in heap; "{what}: '{given}'") {
-        Ok(text) => anyhow!("{text}"),
-        Err(e) => e.into(),
-    }
-}
-
 fn from_args(rt: &HostRuntime) -> anyhow::Result<Task> {
     let mut task = Task::Sheet;
     for arg in env::args(rt)?.skip(1) {
-        let text = arg.as_str();
-        if text == "--help" {
-            task = Task::Help;
-        } else if text == "--parts" {
-            task = Task::Parts;
-        } else {
-            return Err(refused(rt.alloc(), "unknown option (--help lists them)", text));
-        }
+        task = match arg.as_str() {
+            "--help" => Task::Help,
+            "--parts" => Task::Parts,
+            other => bail!("unknown option (--help lists them): '{other}'"),
+        };
     }
     Ok(task)
 }
 
-// How many numbers a sheet of f flip-flops and k gates has.
-fn numbers(f: usize, k: usize) -> usize
-    ensures { sheet_size f k < 2 ^ 64 → result ≡ sheet_size f k }
+// How many numbers a sheet of this size has.
+fn numbers(size: Size) -> usize
+    ensures { sheet_size size.flops size.gates < 2 ^ 64 → result ≡ sheet_size size.flops size.gates }
 {
-    let flops = f.saturating_mul(2);
-    let gates = k.saturating_mul(2).saturating_add(37);
+    let flops = size.flops.saturating_mul(2);
+    let gates = size.gates.saturating_mul(2).saturating_add(37);
     flops.saturating_add(gates)
 }
 
 // The sheet: the two counts, then its numbers, one a line.
 fn print_sheet(rt: &HostRuntime, out: &mut impl Write) -> anyhow::Result<()> {
     let mut sheet = vec![in rt.alloc(); 0u32; 262144]?;
-    match cpu::draw(sheet.as_mut_slice()) {
-        Drawn::Sheet(f, k) => {
-            writeln!(out, "{f} {k}")?;
-            for x in sheet.iter().take(numbers(f, k)) {
-                writeln!(out, "{x}")?;
-            }
-            Ok(())
-        }
-        Drawn::NoRoom => Err(anyhow!("the sheet is too short")),
+    let size = cpu::draw(sheet.as_mut_slice())?;
+    writeln!(out, "{} {}", size.flops, size.gates)?;
+    for x in sheet.iter().take(numbers(size)) {
+        writeln!(out, "{x}")?;
     }
+    Ok(())
 }
 
 // The table of parts: where each begins and how many gates it has, beside its name and what it does.
@@ -107,11 +92,5 @@ fn hvdraw(rt: &HostRuntime) -> anyhow::Result<()> {
 }
 
 fn main(rt: HostRuntime) -> io::Result<ExitCode> {
-    match hvdraw(&rt) {
-        Ok(()) => Ok(ExitCode::SUCCESS),
-        Err(e) => {
-            eprintln!(rt; "hvdraw: {e}")?;
-            Ok(ExitCode::FAILURE)
-        }
-    }
+    finish(&rt, "hvdraw", hvdraw(&rt))
 }

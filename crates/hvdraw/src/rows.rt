@@ -1,4 +1,5 @@
-// The names of the drawing's parts, in the order in which they stand, and what each does.
+// The names of the drawing's parts, in the order in which they stand, and what each does. They stay beside the list
+// `places`, and not in it: its contract has numbers alone, and the names are only printed.
 pub(crate) const ROWS: [(&str, &str); 26] = [
     (
         "control",

@@ -1,18 +1,18 @@
 // hvlang: runs a program of the course language by its definition and prints what it puts out.
 #![tactic(auto)]
 
-mod input;
 mod run;
 
 ghost use Rattle.std.specs.Prelude.{◌≡◌};
-ghost use Rattle.hvlang.specs.Report.{ending_name};
+ghost use Rattle.hvlang.specs.Report.{printed_ending};
 
-use anyhow::anyhow;
-use input::Options;
-use interpreter::state::Ending;
-use run::{Report, run_text};
-use std::io::{self, BufWriter, Write};
+use console::arguments::{NumberOption, read_arguments};
+use console::exit::finish;
+use run::run_text;
+use std::env;
+use std::io::{self, BufWriter, Read, Write};
 use std::process::ExitCode;
+use words::ending::Ending;
 
 const HELP: &str = "usage: hvlang [--fuel N] [WORD..] < TEXT
 
@@ -26,33 +26,41 @@ takes two of N, a further turn of a loop takes one (10000000 unless --fuel says)
   --fuel N   let calls and further turns stand at most N deep, below 4294967295
   --help     print this";
 
+const FUEL: NumberOption = NumberOption {
+    name: "--fuel",
+    what: "an amount of fuel",
+};
+
+// So much fuel unless --fuel says.
+const STANDARD_FUEL: u32 = 10_000_000;
+
 // So many words can be put out.
 const MOST_OUT: usize = 1_000_000;
 
-// The name that is printed for an ending.
-fn ending_name(ending: Ending) -> &'static str
-    ensures { result.now ≡ ending_name ending }
+// What is printed of how a run ended.
+fn printed_ending(ending: Option<Ending>) -> &'static str
+    ensures { result.now ≡ printed_ending ending }
 {
     match ending {
-        Ending::Done => "done",
-        Ending::Index => "index",
-        Ending::Full => "full",
-        Ending::Spent => "still running",
+        Some(ending) => ending.name(),
+        None => "still running",
     }
 }
 
 // Prints the words put out, and how the run ended.
-fn print_run(out: &mut impl Write, words: &[u16], ending: Ending, fuel: u32) -> anyhow::Result<()> {
+fn print_run(
+    out: &mut impl Write,
+    words: &[u16],
+    ending: Option<Ending>,
+    fuel: u32,
+) -> anyhow::Result<()> {
     for w in words {
         writeln!(out, "{w}")?;
     }
+    let how = printed_ending(ending);
     match ending {
-        Ending::Spent => writeln!(
-            out,
-            "{} after calls and turns {fuel} deep",
-            ending_name(ending)
-        )?,
-        _ => writeln!(out, "{}", ending_name(ending))?,
+        Some(_) => writeln!(out, "{how}")?,
+        None => writeln!(out, "{how} after calls and turns {fuel} deep")?,
     }
     Ok(())
 }
@@ -66,41 +74,31 @@ fn report(
     fuel: u32,
 ) -> anyhow::Result<()> {
     let mut words = vec![in rt.alloc(); 0u16; MOST_OUT]?;
-    match run_text(text, tape, fuel, words.as_mut_slice()) {
-        Report::Ran(ending, counts) => {
-            let sent = counts.sent;
-            print_run(
-                out,
-                words.as_slice().get(0..sent).unwrap_or(&[]),
-                ending,
-                fuel,
-            )
-        }
-        Report::NoOut => Err(anyhow!("more than 1000000 words are put out")),
-        Report::NoProgram => Err(anyhow!("the text is no program")),
-        Report::Limits => Err(anyhow!("the program is outside the limits")),
-    }
+    let run = run_text(text, tape, fuel, words.as_mut_slice())?;
+    let sent = run.counts.sent;
+    print_run(
+        out,
+        words.as_slice().get(0..sent).unwrap_or(&[]),
+        run.ending,
+        fuel,
+    )
 }
 
 fn hvlang(rt: &HostRuntime) -> anyhow::Result<()> {
-    let Options { help, fuel, tape } = input::from_args(rt)?;
+    let request = read_arguments(rt.alloc(), env::args(rt)?, Some(FUEL), usize::MAX)?;
     let mut out = BufWriter::new(rt.alloc(), rt.stdout())?;
-    if help {
+    if request.help {
         writeln!(out, "{HELP}")?;
     } else {
-        let text = input::read_text(rt)?;
-        report(rt, &mut out, text.as_slice(), tape.as_slice(), fuel)?;
+        let mut text = Vec::new(rt.alloc());
+        rt.stdin().read_to_end(&mut text)?;
+        let fuel = request.number.unwrap_or(STANDARD_FUEL);
+        report(rt, &mut out, text.as_slice(), request.tape.as_slice(), fuel)?;
     }
     out.flush()?;
     Ok(())
 }
 
 fn main(rt: HostRuntime) -> io::Result<ExitCode> {
-    match hvlang(&rt) {
-        Ok(()) => Ok(ExitCode::SUCCESS),
-        Err(e) => {
-            eprintln!(rt; "hvlang: {e}")?;
-            Ok(ExitCode::FAILURE)
-        }
-    }
+    finish(&rt, "hvlang", hvlang(&rt))
 }

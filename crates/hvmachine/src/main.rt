@@ -1,15 +1,13 @@
 // hvmachine: runs an image on the instruction machine and prints what it puts out.
 #![tactic(auto)]
 
-mod input;
+mod image;
 
-ghost use Rattle.std.specs.Prelude.{◌≡◌};
-ghost use Rattle.hvmachine.specs.Report.{ending_name};
-
-use anyhow::anyhow;
-use input::Options;
-use machine::Ran;
-use machine::processor::{Halt, Processor};
+use console::arguments::{NumberOption, read_arguments};
+use console::exit::finish;
+use image::read_image;
+use machine::processor::Processor;
+use std::env;
 use std::io::{self, BufWriter, Write};
 use std::process::ExitCode;
 
@@ -25,28 +23,16 @@ or full), or that it had not after N instructions (100000000 unless --limit says
   --limit N   run at most N instructions, below 4294967295
   --help      print this";
 
+const LIMIT: NumberOption = NumberOption {
+    name: "--limit",
+    what: "a number of instructions",
+};
+
+// So many instructions unless --limit says.
+const STANDARD_LIMIT: u32 = 100_000_000;
+
 // So many words are put out at most before they are printed.
-const PIECE: u64 = 4096;
-
-// The name that is printed for an ending.
-fn ending_name(halted: Halt) -> &'static str
-    ensures { result.now ≡ ending_name halted }
-{
-    match halted {
-        Halt::Running => "not halted",
-        Halt::Done => "done",
-        Halt::Index => "index",
-        Halt::Full => "full",
-    }
-}
-
-// Prints some words, each on a line of its own.
-fn print_words(out: &mut impl Write, words: &[u16]) -> anyhow::Result<()> {
-    for w in words {
-        writeln!(out, "{w}")?;
-    }
-    Ok(())
-}
+const PIECE: usize = 4096;
 
 // Runs the image in pieces, each short enough for the room that its words have, and prints the words of each.
 fn run_image(
@@ -55,42 +41,38 @@ fn run_image(
     tape: &[u16],
     limit: u64,
 ) -> anyhow::Result<()> {
-    let mut words = [0u16; 4096];
+    let mut words = [0u16; PIECE];
     let mut p = machine::start();
     let mut left = limit;
-    while left > 0 && p.halted == Halt::Running {
-        let piece = left.min(PIECE);
-        match machine::run(p, image, tape, &mut words, piece) {
-            Ran::Came(after) => {
-                let sent = after.sent;
-                print_words(out, &words[0..sent])?;
-                p = Processor { sent: 0, ..after };
-            }
-            Ran::NoOut(_, _) => return Err(anyhow!("more words put out than instructions run")),
-            Ran::BadMemory => return Err(anyhow!("the image has not 65536 words")),
+    while left > 0 && p.halted.is_none() {
+        let piece = left.min(PIECE as u64);
+        let after = machine::run(p, image, tape, &mut words, piece)?;
+        for word in &words[0..after.sent] {
+            writeln!(out, "{word}")?;
         }
+        p = Processor { sent: 0, ..after };
         left -= piece;
     }
-    if p.halted == Halt::Running {
-        writeln!(out, "not halted after {limit} instructions")?;
-    } else {
-        writeln!(out, "{}", ending_name(p.halted))?;
+    match p.halted {
+        Some(ending) => writeln!(out, "{ending}")?,
+        None => writeln!(out, "not halted after {limit} instructions")?,
     }
     Ok(())
 }
 
 fn hvmachine(rt: &HostRuntime) -> anyhow::Result<()> {
-    let Options { help, limit, tape } = input::from_args(rt)?;
+    let request = read_arguments(rt.alloc(), env::args(rt)?, Some(LIMIT), usize::MAX)?;
     let mut out = BufWriter::new(rt.alloc(), rt.stdout())?;
-    if help {
+    if request.help {
         writeln!(out, "{HELP}")?;
     } else {
-        let mut image = input::read_image(rt)?;
+        let mut image = read_image(rt)?;
+        let limit = request.number.unwrap_or(STANDARD_LIMIT);
         run_image(
             &mut out,
             image.as_mut_slice(),
-            tape.as_slice(),
-            limit as u64,
+            request.tape.as_slice(),
+            u64::from(limit),
         )?;
     }
     out.flush()?;
@@ -98,11 +80,5 @@ fn hvmachine(rt: &HostRuntime) -> anyhow::Result<()> {
 }
 
 fn main(rt: HostRuntime) -> io::Result<ExitCode> {
-    match hvmachine(&rt) {
-        Ok(()) => Ok(ExitCode::SUCCESS),
-        Err(e) => {
-            eprintln!(rt; "hvmachine: {e}")?;
-            Ok(ExitCode::FAILURE)
-        }
-    }
+    finish(&rt, "hvmachine", hvmachine(&rt))
 }

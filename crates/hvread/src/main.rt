@@ -2,46 +2,35 @@
 // outside the limits. Status 0 for a program; else 1, with the answer on standard error.
 #![tactic(auto)]
 
-use language::nodes::{MOST_NODES, MOST_PROCEDURES, Node, Procedure};
+use language::nodes::Sizes;
 use std::io::Read;
 use std::process::ExitCode;
 use std::{env, io};
-use text::load::{Refused, Sizes, load};
+use text::load::load;
 
 const HELP: &str = "usage: hvread < TEXT
 Says whether TEXT is a program, and how many globals, cells, procedures and signs it has.
 Answers 'no program' and 'limits' go to standard error, with status 1.";
 
-// What a text is the writing of.
-fn sizes(text: &[u8]) -> Result<Sizes, Refused> {
-    let mut nodes = [Node::Skip; MOST_NODES];
-    let mut table = [Procedure { locals: 0, body: 0 }; MOST_PROCEDURES];
-    load(text, &mut nodes, &mut table)
-}
-
 fn answer(rt: &HostRuntime, text: &[u8]) -> io::Result<ExitCode> {
-    match sizes(text) {
-        Ok(
-            Sizes {
+    match load(text) {
+        Ok(parsed) => {
+            let Sizes {
                 globals,
                 cells,
                 procs,
                 signs,
-            },
-        ) => {
+            } = parsed.sizes;
             println!(rt;
                 "program: {globals} globals, {cells} cells, {procs} procedures, {signs} signs"
             )?;
             Ok(ExitCode::SUCCESS)
         }
-        Err(Refused::NoProgram) => refuse(rt, "no program"),
-        Err(Refused::Limits) => refuse(rt, "limits"),
+        Err(refused) => {
+            eprintln!(rt; "{refused}")?;
+            Ok(ExitCode::FAILURE)
+        }
     }
-}
-
-fn refuse(rt: &HostRuntime, message: &str) -> io::Result<ExitCode> {
-    eprintln!(rt; "{message}")?;
-    Ok(ExitCode::FAILURE)
 }
 
 fn input(rt: &HostRuntime) -> io::Result<Vec<u8>> {

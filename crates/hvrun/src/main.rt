@@ -1,12 +1,13 @@
 // hvrun: runs the program of a text on the board, and prints what the lamps show.
 #![tactic(auto)]
 
-mod input;
-
-use anyhow::anyhow;
-use input::Options;
-use stack::{FLOPS, IMAGE, Lit, SHEET, SIGNALS, Shown};
+use anyhow::bail;
+use console::arguments::read_arguments;
+use console::exit::finish;
+use console::text::read_text;
+use stack::{FLOPS, IMAGE, Lit, SHEET, SIGNALS};
 use std::alloc::Global;
+use std::env;
 use std::io::{self, BufWriter, Write};
 use std::process::ExitCode;
 
@@ -21,6 +22,11 @@ index or full), or that it has not.
 
   --help      print this";
 
+// The largest text and the longest tape that are read, in bytes and in words.
+const MOST_BYTES: usize = 1_048_576;
+
+const MOST_WORDS: usize = 100_000;
+
 const CYCLES: u64 = 2_000_000;
 
 // Room for the words that are shown: our drawing shows at most one in three cycles.
@@ -28,18 +34,15 @@ const WORDS: usize = 666_700;
 
 // Prints what the lamps show, and how the board halted.
 fn print_lamps(out: &mut impl Write, words: &[u16], lit: Lit) -> anyhow::Result<()> {
-    let sent = lit.sent;
-    if sent > words.len() {
-        return Err(anyhow!("more words shown than there is room for"));
-    }
-    for w in &words[0..sent] {
-        writeln!(out, "{w}")?;
+    let Some(shown) = words.get(0..lit.sent) else {
+        bail!("more words shown than there is room for");
+    };
+    for word in shown {
+        writeln!(out, "{word}")?;
     }
     match lit.halted {
-        0 => writeln!(out, "not halted after {CYCLES} cycles")?,
-        1 => writeln!(out, "done")?,
-        2 => writeln!(out, "index")?,
-        _ => writeln!(out, "full")?,
+        Some(ending) => writeln!(out, "{ending}")?,
+        None => writeln!(out, "not halted after {CYCLES} cycles")?,
     }
     Ok(())
 }
@@ -51,7 +54,7 @@ fn run_text(heap: Global, out: &mut impl Write, text: &[u8], tape: &[u16]) -> an
     let mut state = vec![in heap; 0u8; FLOPS]?;
     let mut work = vec![in heap; 0u8; SIGNALS]?;
     let mut words = vec![in heap; 0u16; WORDS]?;
-    let shown = stack::run(
+    let lit = stack::run(
         text,
         tape,
         CYCLES,
@@ -60,37 +63,30 @@ fn run_text(heap: Global, out: &mut impl Write, text: &[u8], tape: &[u16]) -> an
         state.as_mut_slice(),
         work.as_mut_slice(),
         words.as_mut_slice(),
-    );
-    match shown {
-        Shown::Ran(lit) => print_lamps(out, words.as_slice(), lit),
-        Shown::NoProgram => Err(anyhow!("no program")),
-        Shown::Limits => Err(anyhow!(
-            "limits: the program is larger than the course allows, or names what is not there"
-        )),
-        Shown::NoOut => Err(anyhow!("more words shown than there is room for")),
-        Shown::BadRoom => Err(anyhow!("the board's buffers have the wrong sizes")),
-    }
+    )?;
+    print_lamps(out, words.as_slice(), lit)
 }
 
 fn hvrun(rt: &HostRuntime) -> anyhow::Result<()> {
-    let Options { help, tape } = input::from_args(rt)?;
+    let request = read_arguments(rt.alloc(), env::args(rt)?, None, MOST_WORDS)?;
     let mut out = BufWriter::new(rt.alloc(), rt.stdout())?;
-    if help {
+    if request.help {
         writeln!(out, "{HELP}")?;
     } else {
-        let text = input::read_text(rt)?;
-        run_text(rt.alloc(), &mut out, text.as_slice(), tape.as_slice())?;
+        let Some(text) = read_text(rt.alloc(), &mut rt.stdin(), MOST_BYTES)? else {
+            bail!("the text is longer than {MOST_BYTES} bytes");
+        };
+        run_text(
+            rt.alloc(),
+            &mut out,
+            text.as_slice(),
+            request.tape.as_slice(),
+        )?;
     }
     out.flush()?;
     Ok(())
 }
 
 fn main(rt: HostRuntime) -> io::Result<ExitCode> {
-    match hvrun(&rt) {
-        Ok(()) => Ok(ExitCode::SUCCESS),
-        Err(e) => {
-            eprintln!(rt; "hvrun: {e}")?;
-            Ok(ExitCode::FAILURE)
-        }
-    }
+    finish(&rt, "hvrun", hvrun(&rt))
 }

@@ -1,8 +1,4 @@
 -- Lemmas on the interpreter.
-pub mod Trees
-pub mod Shapes
-pub mod Unique
-pub mod Measuring
 pub mod Outcomes
 pub mod Working
 pub mod Doing

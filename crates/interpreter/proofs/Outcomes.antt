@@ -7,10 +7,9 @@ use Rattle.words.specs.Runs.{Prefix, ended_index, ended_full}
 use Rattle.language.specs.Language.{Expr, Stmt, Program, State, Outcome, fine, ends, spent, bind, eval, run_stmt, run_call}
 use Rattle.language.proofs.Fuel.{outs, expr_extends, same_fuel}
 use Rattle.interpreter.specs.declared.state.Counts.{Counts}
-use Rattle.interpreter.specs.declared.state.Value.{Value}
 use Rattle.interpreter.specs.declared.state.Stop.{Stop}
 use Rattle.interpreter.specs.declared.state.Stop.TheVariants.{Index, Full, Spent, NoOut}
-use Rattle.interpreter.specs.Running.{Memory, state_of, Grew, Came, Stopped, Stops, Evaluates, Executes}
+use Rattle.interpreter.specs.Running.{Work, state_of, Grew, Came, Stopped, Stops, Evaluates, Executes}
 
 -- What a program puts out only grows: in a call, an expression, a statement.
 pub call_grows : (g : Program) (n room f v : ℕ) (s : State) → Prefix s.out (outs (run_call n g room f v s))
@@ -69,31 +68,38 @@ module _ (tape : List ℕ) where
       → Stopped how r tape c c' o o' → Stopped how (bind r k) tape c c' o o'
   stopped_bind how r k c c' o o' e h = record { state = h.state; is = ap (λ (x : Outcome). bind x k) h.is ∙ e h.state; shown = h.shown; left = h.left; grew = h.grew }
 
-  pub stops_bind : (r : Outcome) (k : ℕ → State → Outcome) (c : Counts) (o o' : List ℕ) (stop : Stop) → Adds k → Stops r tape c o o' stop → Stops (bind r k) tape c o o' stop
-  stops_bind r k c o o' (Index c') g h = stopped_bind (ends ended_index) r k c c' o o' (λ s. refl) h
-  stops_bind r k c o o' (Full c') g h = stopped_bind (ends ended_full) r k c c' o o' (λ s. refl) h
-  stops_bind r k c o o' (Spent c') g h = stopped_bind spent r k c c' o o' (λ s. refl) h
-  stops_bind r k c o o' NoOut g h = omega (arith, bind_longer r k g)
+  pub stops_bind : (r : Outcome) (k : ℕ → State → Outcome) (c c' : Counts) (o o' : List ℕ) (stop : Stop) → Adds k → Stops r tape c c' o o' stop → Stops (bind r k) tape c c' o o' stop
+  stops_bind r k c c' o o' Index g h = stopped_bind (ends ended_index) r k c c' o o' (λ s. refl) h
+  stops_bind r k c c' o o' Full g h = stopped_bind (ends ended_full) r k c c' o o' (λ s. refl) h
+  stops_bind r k c c' o o' Spent g h = stopped_bind spent r k c c' o o' (λ s. refl) h
+  stops_bind r k c c' o o' NoOut g h = omega (arith, bind_longer r k g)
 
   -- a stop, a value later on
   stopped_later : (how : State → Outcome) (r : Outcome) (b c c' : Counts) (o p q : List ℕ) → Grew tape b c o p → Stopped how r tape c c' p q → Stopped how r tape b c' o q
   stopped_later how r b c c' o p q x h = record { state = h.state; is = h.is; shown = h.shown; left = h.left; grew = grew_more b c c' o p q x h.grew }
 
-  stops_later : (r : Outcome) (b c : Counts) (o p q : List ℕ) (stop : Stop) → Grew tape b c o p → Stops r tape c p q stop → Stops r tape b o q stop
-  stops_later r b c o p q (Index c') x h = stopped_later (ends ended_index) r b c c' o p q x h
-  stops_later r b c o p q (Full c') x h = stopped_later (ends ended_full) r b c c' o p q x h
-  stops_later r b c o p q (Spent c') x h = stopped_later spent r b c c' o p q x h
-  stops_later r b c o p q NoOut x h = omega (arith, x.long)
+  stops_later : (r : Outcome) (b c c' : Counts) (o p q : List ℕ) (stop : Stop) → Grew tape b c o p → Stops r tape c c' p q stop → Stops r tape b c' o q stop
+  stops_later r b c c' o p q Index x h = stopped_later (ends ended_index) r b c c' o p q x h
+  stops_later r b c c' o p q Full x h = stopped_later (ends ended_full) r b c c' o p q x h
+  stops_later r b c c' o p q Spent x h = stopped_later spent r b c c' o p q x h
+  stops_later r b c c' o p q NoOut x h = omega (arith, x.long)
 
-  module _ (r : Outcome) (k : ℕ → State → Outcome) (v n : ℕ) (c d : Counts) (m m1 m2 : Memory) (first : Came r v n tape c d m m1) where
+  module _ (r : Outcome) (k : ℕ → State → Outcome) (v : ℕ) (m m1 m2 : Work) (first : Came r v tape m m1) where
     -- the whole is what comes after the value
-    pub after_is : bind r k ≡ k v (state_of n tape d m1)
+    after_is : bind r k ≡ k v (state_of tape m1)
     after_is = ap (λ (x : Outcome). bind x k) first.is
 
-    pub evaluates_after : (x : Result Value Stop) → Evaluates (k v (state_of n tape d m1)) n tape d m1 m2 x → Evaluates (bind r k) n tape c m m2 x
-    evaluates_after (Ok x) h = record { is = after_is ∙ h.is; grew = grew_more c d x.counts m.out m1.out m2.out first.grew h.grew }
-    evaluates_after (Err stop) h = subst (λ (y : Outcome). Stops y tape c m.out m2.out stop) (sym after_is) (stops_later (k v (state_of n tape d m1)) c d m.out m1.out m2.out stop first.grew h)
+    came_after : (w : ℕ) → Came (k v (state_of tape m1)) w tape m1 m2 → Came (bind r k) w tape m m2
+    came_after w h = record { is = after_is ∙ h.is; grew = grew_more m.counts m1.counts m2.counts m.out m1.out m2.out first.grew h.grew }
 
-    pub executes_after : (x : Result Counts Stop) → Executes (k v (state_of n tape d m1)) n tape d m1 m2 x → Executes (bind r k) n tape c m m2 x
-    executes_after (Ok c') h = record { is = after_is ∙ h.is; grew = grew_more c d c' m.out m1.out m2.out first.grew h.grew }
-    executes_after (Err stop) h = subst (λ (y : Outcome). Stops y tape c m.out m2.out stop) (sym after_is) (stops_later (k v (state_of n tape d m1)) c d m.out m1.out m2.out stop first.grew h)
+    stops_after : (stop : Stop) → Stops (k v (state_of tape m1)) tape m1.counts m2.counts m1.out m2.out stop → Stops (bind r k) tape m.counts m2.counts m.out m2.out stop
+    stops_after stop h = subst (λ (y : Outcome). Stops y tape m.counts m2.counts m.out m2.out stop) (sym after_is)
+        (stops_later (k v (state_of tape m1)) m.counts m1.counts m2.counts m.out m1.out m2.out stop first.grew h)
+
+    pub evaluates_after : (x : Result ℕ Stop) → Evaluates (k v (state_of tape m1)) tape m1 m2 x → Evaluates (bind r k) tape m m2 x
+    evaluates_after (Ok w) h = came_after w h
+    evaluates_after (Err stop) h = stops_after stop h
+
+    pub executes_after : (x : Result (Unit {0}) Stop) → Executes (k v (state_of tape m1)) tape m1 m2 x → Executes (bind r k) tape m m2 x
+    executes_after (Ok done) h = came_after 0 h
+    executes_after (Err stop) h = stops_after stop h

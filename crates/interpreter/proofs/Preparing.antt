@@ -1,32 +1,26 @@
--- Routines made from a table: one more each turn; a body where no statement stands is of no program; and the routines, of
+-- Routines made from a table: a body where no statement stands is of no program; and the routines, of
 -- which a call gets as many as there are procedures, are the program's.
-use Rattle.std.proofs.Common.{◌≡◌, ℕ, ◌+◌, ◌<◌, ◌≤◌, ◌≢◌, List, length, take, set, sym, ap, ◌∙◌, subst, arith, get_or-set_other, get_or-set_same, below_more}
+use Rattle.std.proofs.Common.{◌≡◌, ℕ, ◌<◌, ◌≤◌, List, length, take, sym, ap, ◌∙◌, subst, arith}
 use Rattle.std.proofs.lemmas.List.{get_or-take, length-take-le}
 use Rattle.language.specs.Language.{Stmt, Proc, Program}
 use Rattle.language.specs.Nodes.{StmtAt, Holds, entry_at}
 use Rattle.language.specs.declared.nodes.Node.{Node}
 use Rattle.language.specs.declared.nodes.Procedure.{Procedure}
 use Rattle.interpreter.specs.declared.state.Routine.{Routine}
-use Rattle.interpreter.specs.Heights.{routine_at, Measured, Ready, AllReady}
+use Rattle.interpreter.specs.Routines.{routine_at, Measured, Ready, AllReady}
 use Rattle.interpreter.specs.Running.{Held}
 use Rattle.interpreter.proofs.Calling.{proc_some, proc_inside}
 
 abbrev no_routine : Routine
 no_routine = record { locals = 0; body = 0; height = 0 }
 
-pub ready_more : (nodes : List Node) (table : List Procedure) (procs : List Routine) (n : ℕ) (r : Routine) → n < length procs → AllReady nodes table procs n → Ready nodes (entry_at table n) r → AllReady nodes table (set procs n r) (n + 1)
-ready_more nodes table procs n r inside all one =
-    below_more (λ k. Ready nodes (entry_at table k) (routine_at (set procs n r) k)) n
-    (λ k h. let ne : k ≢ n = omega arith in subst (λ (x : Routine). Ready nodes (entry_at table k) x) (sym (get_or-set_other procs n k r no_routine ne)) (all k h))
-    (subst (λ (x : Routine). Ready nodes (entry_at table n) x) (sym (get_or-set_same procs n r no_routine inside)) one)
-
 pub no_program : (nodes : List Node) (table : List Procedure) (f : ℕ) → f < length table → ((s : Stmt) → StmtAt nodes (entry_at table f).body s → ⊥) → (ps : List Proc) → length table ≡ length ps → Holds nodes table ps → ⊥
 no_program nodes table f inside none ps e holds =
     let p = proc_some ps f (omega arith) in
     none p.0.body (holds f p.0 p.1).1
 
-module _ (nodes : List Node) (table : List Procedure) (procs part : List Routine) (all : AllReady nodes table procs (length table)) (is : part ≡ take (length table) procs) (long : length table ≤ length procs) where
-  pub part_long : length part ≡ length table
+module _ (nodes : List Node) (table : List Procedure) (procs part : List Routine) (all : AllReady nodes table procs (length table)) (long : length table ≤ length procs) (is : part ≡ take (length table) procs) where
+  part_long : length part ≡ length table
   part_long = ap length is ∙ length-take-le (length table) procs long
 
   part_at : (f : ℕ) → f < length table → routine_at part f ≡ routine_at procs f

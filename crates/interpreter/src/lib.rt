@@ -2,50 +2,48 @@
 // allocator.
 #![tactic(auto)]
 
-mod heights;
+mod code;
 mod lent;
 mod prepare;
-mod run;
 pub mod state;
+mod walk;
 
-ghost use Rattle.interpreter.specs.Interpreter.{Interprets, stopped_as};
+ghost use Rattle.interpreter.specs.Interpreter.{Interprets};
 ghost use Rattle.interpreter.specs.Running.{memory};
-ghost use Rattle.std.specs.Prelude.{◌≡◌};
 
+use code::Code;
 use language::nodes::{MOST_PROCEDURES, Node, Procedure};
-use lent::clear;
 use prepare::prepare;
-use run::call;
-use state::{Counts, Ending, Here, Routine, Stop};
+use state::{Counts, Stop, Store};
+use thiserror::Error;
+use words::ending::Ending;
 
 // All frames of a run together have so many words.
 pub const FRAME_ROOM: usize = 8192;
 
-// What came of a program: a run, with how it ended and what it took and put out; or more words were put out than there is
-// room for, and globals, cells, frames and out words may hold anything; or the nodes and the table hold no program within
-// the limits; or there are too few words for frames. By the last two nothing has changed.
-#[derive(Clone, Copy)]
-pub enum Interpreted {
-    Ran(Ending, Counts),
+// A run: how it ended, none where its fuel is spent, and what it took and put out.
+#[derive(Clone, Copy, PartialEq, Eq, Debug)]
+pub struct Run {
+    pub ending: Option<Ending>,
+    pub counts: Counts,
+}
+
+// Why there is no run: more words were put out than there is room for, and globals, cells, frames and out words may hold
+// anything; or the nodes and the table hold no program within the limits; or there are too few words for frames. By the
+// last two nothing has changed.
+#[derive(Clone, Copy, PartialEq, Eq, Debug, Error)]
+pub enum InterpretError {
+    #[error("more words put out than there is room for")]
     NoOut,
+    #[error("no program within the limits")]
     NoProgram,
+    #[error("too few words for frames")]
     Short,
 }
 
-// What came of a program that stopped before its end.
-fn stopped(stop: Stop) -> Interpreted
-    ensures { result ≡ stopped_as stop }
-{
-    match stop {
-        Stop::Index(counts) => Interpreted::Ran(Ending::Index, counts),
-        Stop::Full(counts) => Interpreted::Ran(Ending::Full, counts),
-        Stop::Spent(counts) => Interpreted::Ran(Ending::Spent, counts),
-        Stop::NoOut => Interpreted::NoOut,
-    }
-}
-
 // Runs the program that the nodes and the table hold, with so much fuel. Globals and cells are 0 at first, whatever they
-// hold.
+// hold. Each part of memory is lent by itself, since a caller cuts each to the program's size: a struct of them would be
+// made for this one call.
 pub fn interpret(
     nodes: &[Node],
     table: &[Procedure],
@@ -55,46 +53,39 @@ pub fn interpret(
     globals: &mut [u16],
     cells: &mut [u16],
     out: &mut [u16],
-) -> Interpreted
+) -> Result<Run, InterpretError>
     ensures { Interprets nodes.now table.now tape.now fuel (memory frames.old globals.old cells.old out.old) (memory frames.new globals.new cells.new out.new) result }
 {
     if frames.len() < FRAME_ROOM {
-        return Interpreted::Short;
+        return Err(InterpretError::Short);
     }
     let count = table.len();
     if count > MOST_PROCEDURES {
-        return Interpreted::NoProgram;
+        return Err(InterpretError::NoProgram);
     }
-    let none = Routine {
-        locals: 0,
-        body: 0,
-        height: 0,
-    };
-    let mut procs = [none; MOST_PROCEDURES];
-    if !prepare(nodes, table, &mut procs) {
-        return Interpreted::NoProgram;
-    }
-    clear(globals);
-    clear(cells);
-    let start = Here {
-        fuel,
-        room: FRAME_ROOM,
-        locals: 0,
-        counts: Counts { taken: 0, sent: 0 },
-    };
-    match call(
+    let procs = prepare(nodes, table).ok_or(InterpretError::NoProgram)?;
+    let code = Code {
         nodes,
-        &procs[0..count],
-        0,
-        0,
-        start,
-        frames,
+        procs: &procs[0..count],
+        tape,
+    };
+    globals.fill(0);
+    cells.fill(0);
+    let mut store = Store {
         globals,
         cells,
-        tape,
         out,
-    ) {
-        Ok(value) => Interpreted::Ran(Ending::Done, value.counts),
-        Err(stop) => stopped(stop),
-    }
+        counts: Counts { taken: 0, sent: 0 },
+    };
+    let ending = match code.call(0, 0, fuel, &mut frames[0..FRAME_ROOM], &mut store) {
+        Ok(_) => Some(Ending::Done),
+        Err(Stop::Index) => Some(Ending::Index),
+        Err(Stop::Full) => Some(Ending::Full),
+        Err(Stop::Spent) => None,
+        Err(Stop::NoOut) => return Err(InterpretError::NoOut),
+    };
+    Ok(Run {
+        ending,
+        counts: store.counts,
+    })
 }

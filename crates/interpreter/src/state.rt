@@ -1,34 +1,20 @@
-// What a run counts, what comes of its parts, and where it stands.
+// What a run counts and writes, and what comes of its parts.
 
 // How many words of the tape are taken, and how many words are put out.
-#[derive(Clone, Copy)]
+// They stand beside the lent tape and out words, and not in one struct with them: a run gives them back, the slices are the
+// caller's.
+#[derive(Clone, Copy, PartialEq, Eq, Debug)]
 pub struct Counts {
     pub taken: usize,
     pub sent: usize,
 }
 
-// How a run ended: at its end, at a place past the cells, without room for a frame; or its fuel is spent.
-#[derive(Clone, Copy)]
-pub enum Ending {
-    Done,
-    Index,
-    Full,
-    Spent,
-}
-
-// The value of an expression, and the counts after it.
-#[derive(Clone, Copy)]
-pub(crate) struct Value {
-    pub word: u16,
-    pub counts: Counts,
-}
-
 // Why a run stops before its end: a place past the cells, no room for a frame, the fuel is spent, no room for a word.
 #[derive(Clone, Copy)]
 pub(crate) enum Stop {
-    Index(Counts),
-    Full(Counts),
-    Spent(Counts),
+    Index,
+    Full,
+    Spent,
     NoOut,
 }
 
@@ -37,14 +23,14 @@ pub(crate) enum Stop {
 pub(crate) struct Routine {
     pub locals: u16,
     pub body: u16,
-    pub height: u32,
+    pub height: usize,
 }
 
-// Where a run stands: the fuel, the words left for frames, how many locals the procedure at work has, and the counts.
-#[derive(Clone, Copy)]
-pub(crate) struct Here {
-    pub fuel: u32,
-    pub room: usize,
-    pub locals: usize,
+// What a run writes beside the frames: the lent globals, cells and out words, and how far tape and out words are used.
+#[derive(Drop)]
+pub(crate) struct Store<'a> {
+    pub globals: &'a mut [u16],
+    pub cells: &'a mut [u16],
+    pub out: &'a mut [u16],
     pub counts: Counts,
 }

@@ -1,4 +1,6 @@
 -- Lemmas on the language.
 pub mod Fuel
-pub mod Heights
-pub mod Opened
+pub mod Trees
+pub mod Shapes
+pub mod Unique
+pub mod Measuring

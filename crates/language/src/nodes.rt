@@ -1,5 +1,6 @@
 // A program as an array of nodes: one node for each expression, statement and procedure, in the order of its text. A
-// node names its parts by their number in the array, and every part stands after its node.
+// node names its parts by their number in the array, and every part stands after its node. No tree of boxes: nothing in the
+// layers allocates, and the course asks for one node at a time from an array of them.
 
 // As many nodes as a program may have, and as many procedures.
 pub const MOST_NODES: usize = 2000;
@@ -38,4 +39,13 @@ pub enum Node {
 pub struct Procedure {
     pub locals: u16,
     pub body: u16,
+}
+
+// How many globals, cells, procedures and signs a program has.
+#[derive(Clone, Copy, PartialEq, Eq, Debug)]
+pub struct Sizes {
+    pub globals: usize,
+    pub cells: usize,
+    pub procs: usize,
+    pub signs: usize,
 }

@@ -1,4 +1,3 @@
 -- Lemmas on the machine.
 pub mod Steps
-mod Taking
 mod Running

@@ -1,16 +1,14 @@
--- A run in steps, as the code goes through it: nothing done yet, one step more, a step without room, and a
+-- A run in steps, as the code goes through it: one step more, a step without room, and a
 -- halt before the last.
-use Rattle.std.proofs.Common.{◌≡◌, ℕ, suc, ◌+◌, ◌-◌, ◌<◌, ◌≤◌, List, length, drop, sym, refl, ap, ◌∙◌, subst, arith}
+use Rattle.std.proofs.Common.{◌≡◌, ℕ, suc, ◌+◌, ◌-◌, ◌<◌, ◌≤◌, List, length, drop, Option, Some, None, sym, refl, ap, ◌∙◌, subst, arith}
 use Rattle.std.proofs.lemmas.List.{drop-drop}
 use Rattle.machine.specs.Machine.{Machine, step, steps}
-use Rattle.machine.specs.Processor.{machine_of, ending_of, Reached, NoRoom}
+use Rattle.machine.specs.Processor.{machine_of, Reached, NoRoom}
 use Rattle.machine.specs.declared.processor.Processor.{Processor}
-use Rattle.machine.specs.declared.processor.Halt.{Halt}
-use Rattle.machine.specs.declared.processor.Halt.TheVariants.{Running, Done, Index, Full}
+use Rattle.words.specs.Endings.{halt_code}
+use Rattle.words.specs.declared.ending.Ending.{Ending}
+use Rattle.words.specs.declared.ending.Ending.TheVariants.{Done, Index, Full}
 use Rattle.machine.proofs.Steps.{steps_last, steps_from, steps_halted}
-
-pub reached_none : (p : Processor) (mem tape out : List ℕ) → Reached (machine_of p mem tape out) p p mem tape out out
-reached_none p mem tape out = record { machine = refl; unsent = refl; sent_grows = omega arith; sent_within = λ h. h; taken_within = λ h. h }
 
 -- words past a place that are the same are the same past a later place
 drop_further : (j k : ℕ) (xs ys : List ℕ) → j ≤ k → drop j xs ≡ drop j ys → drop k xs ≡ drop k ys
@@ -41,14 +39,14 @@ reached_stuck s k p q mem mem' tape out out' out'' l a stuck =
       subst (λ (m : Machine). length out < length m.out) next (omega (arith, stuck.too_few, l)),
     )
 
-not_running : (how : Halt) → (how ≡ Running → ⊥) → 0 < ending_of how
-not_running Running h = absurd (h refl)
-not_running Done h = omega arith
-not_running Index h = omega arith
-not_running Full h = omega arith
+not_running : (how : Option Ending) → (how ≡ None → ⊥) → 0 < halt_code how
+not_running None h = absurd (h refl)
+not_running (Some Done) h = omega arith
+not_running (Some Index) h = omega arith
+not_running (Some Full) h = omega arith
 
 -- a machine that has halted on the way has come to the end
-pub reached_halted : (s : Machine) (k n : ℕ) (p q : Processor) (mem tape out out' : List ℕ) → k ≤ n → (q.halted ≡ Running → ⊥)
+pub reached_halted : (s : Machine) (k n : ℕ) (p q : Processor) (mem tape out out' : List ℕ) → k ≤ n → (q.halted ≡ None → ⊥)
     → Reached (steps k s) p q mem tape out out' → Reached (steps n s) p q mem tape out out'
 reached_halted s k n p q mem tape out out' le halted a =
     let stopped : 0 < (steps k s).halted = subst (λ (m : Machine). 0 < m.halted) a.machine (not_running q.halted halted) in

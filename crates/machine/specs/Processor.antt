@@ -1,29 +1,20 @@
 -- The machine that stands in a processor and lent memory, tape and out words, and what 'run' promises of it.
-use Rattle.std.specs.Prelude.{◌≡◌, ℕ, suc, ◌<◌, ◌≤◌, List, length, take, drop, Some, None, Option, ◌≢◌}
+use Rattle.std.specs.Prelude.{◌≡◌, ℕ, suc, ◌<◌, ◌≤◌, List, length, take, drop, Some, None, Option, Ok, Err, Result, ◌≢◌}
 use Rattle.words.specs.Words.{add16, put, memory_size}
-use Rattle.words.specs.Runs.{running, ended_done, ended_index, ended_full}
+use Rattle.words.specs.Endings.{halt_code}
 use Rattle.machine.specs.Machine.{Machine, Fields, steps}
 use Rattle.machine.specs.declared.instruction.Instruction.{Instruction}
-use Rattle.machine.specs.declared.processor.Halt.{Halt}
-use Rattle.machine.specs.declared.processor.Halt.TheVariants.{Running, Done, Index, Full}
 use Rattle.machine.specs.declared.processor.Processor.{Processor}
-use Rattle.machine.specs.declared.Ran.{Ran}
-use Rattle.machine.specs.declared.Ran.TheVariants.{Came, NoOut, BadMemory}
+use Rattle.machine.specs.declared.RunError.{RunError}
+use Rattle.machine.specs.declared.RunError.TheVariants.{NoOut, BadMemory}
 
 -- an instruction of the code as the definition has it
 abbrev pub fields : Instruction → Fields
 fields i = record { op = i.op; d = i.d; a = i.a; b = i.b; n = i.n; m = i.m }
 
--- an ending of the code as the number that the definition has for it
-abbrev pub ending_of : Halt → ℕ
-ending_of Running = running
-ending_of Done = ended_done
-ending_of Index = ended_index
-ending_of Full = ended_full
-
 -- the machine: so many words of the tape are taken, and so many out words are put out
 abbrev pub machine_of : Processor → List ℕ → List ℕ → List ℕ → Machine
-machine_of p mem tape out = record { pc = p.pc; registers = p.registers; mem = mem; tape = drop p.taken tape; out = take p.sent out; halted = ending_of p.halted }
+machine_of p mem tape out = record { pc = p.pc; registers = p.registers; mem = mem; tape = drop p.taken tape; out = take p.sent out; halted = halt_code p.halted }
 
 -- the processor with v in register d, at the next instruction
 abbrev pub with_register : Processor → ℕ → ℕ → Processor
@@ -56,8 +47,8 @@ Executed s' p mem mem' tape out out' None = NoRoom s' mem mem' out out'
 
 -- What a run of n instructions promises: the machine after n steps; or it stands after the first k of them, and the next
 -- one puts out a word for which there is no room; or the memory has another size, and everything is as it was.
-abbrev pub Runs : ℕ → Processor → List ℕ → List ℕ → List ℕ → List ℕ → List ℕ → Ran → Type 0
-Runs n p mem mem' tape out out' (Came p') = (length mem ≡ memory_size) × Reached (steps n (machine_of p mem tape out)) p p' mem' tape out out'
-Runs n p mem mem' tape out out' (NoOut p' k) = (length mem ≡ memory_size) × (k < n) × Reached (steps k (machine_of p mem tape out)) p p' mem' tape out out'
+abbrev pub Runs : ℕ → Processor → List ℕ → List ℕ → List ℕ → List ℕ → List ℕ → Result Processor RunError → Type 0
+Runs n p mem mem' tape out out' (Ok p') = (length mem ≡ memory_size) × Reached (steps n (machine_of p mem tape out)) p p' mem' tape out out'
+Runs n p mem mem' tape out out' (Err (NoOut p' k)) = (length mem ≡ memory_size) × (k < n) × Reached (steps k (machine_of p mem tape out)) p p' mem' tape out out'
     × (length out < length (steps (suc k) (machine_of p mem tape out)).out)
-Runs n p mem mem' tape out out' BadMemory = (length mem ≢ memory_size) × (mem' ≡ mem) × (out' ≡ out)
+Runs n p mem mem' tape out out' (Err BadMemory) = (length mem ≢ memory_size) × (mem' ≡ mem) × (out' ≡ out)

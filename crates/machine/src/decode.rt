@@ -5,11 +5,11 @@ ghost use Rattle.machine.specs.Processor.{fields};
 
 use crate::instruction::Instruction;
 
-impl Instruction {
-    // The instruction that a word stands for.
-    pub fn of(w: u16) -> Self
-        ensures { fields result ≡ decode w }
-    {
+// The instruction that a word stands for.
+impl From<u16> for Instruction {
+    ghost from_gives = { λ w i. fields i ≡ decode w };
+
+    fn from(w: u16) -> Self {
         Instruction {
             op: w / 4096,
             d: (w / 512 % 8) as usize,

@@ -1,11 +1,13 @@
 // What one instruction does.
 ghost use Rattle.std.specs.Prelude.{◌≡◌, ℕ, ◌-◌, ◌<◌, ◌≤◌, List, length};
-ghost use Rattle.words.specs.Words.{add16, memory_size};
+ghost use Rattle.words.specs.Words.{add16};
+ghost use Rattle.words.specs.Endings.{code_of};
 ghost use Rattle.machine.specs.Machine.{Load, Store, Zero, Jump, In, Out, operation, act, set_register, target};
-ghost use Rattle.machine.specs.Processor.{fields, machine_of, with_register, ending_of, SameCounts, Executed};
+ghost use Rattle.machine.specs.Processor.{fields, machine_of, with_register, SameCounts, Executed};
 
 use crate::instruction::Instruction;
-use crate::processor::{Halt, Processor};
+use crate::processor::{MEMORY_SIZE, Processor};
+use words::ending::Ending;
 
 impl Processor {
     // The place of the next instruction.
@@ -54,20 +56,25 @@ fn result(i: Instruction, p: Processor) -> u16
 }
 
 // How one of the operations 13 to 15 halts.
-fn ending(op: u16) -> Halt
+fn ending(op: u16) -> Ending
     requires { (13 ≤ op) × (op < 16) }
-    ensures { ending_of result ≡ op - 12 }
+    ensures { code_of result ≡ op - 12 }
 {
     match op {
-        13 => Halt::Done,
-        14 => Halt::Index,
-        _ => Halt::Full,
+        13 => Ending::Done,
+        14 => Ending::Index,
+        _ => Ending::Full,
     }
 }
 
+// That a processor has not halted is a fact of some processors only, so each instruction that needs it asks for it. That the
+// counts stay relates a processor before and after, and is a fact of four instructions.
+//
+// Memory, tape and out words are handed apart from the processor, each only to the instruction that needs it: lent together
+// in a struct, every function would have to promise besides that it leaves the other two.
+
 // Register d takes the word at a + m.
-fn load(i: Instruction, p: Processor, mem: &[u16]) -> Processor
-    requires { length mem.now ≡ memory_size }
+fn load(i: Instruction, p: Processor, mem: &[u16; MEMORY_SIZE]) -> Processor
     ensures machine { (tape out : List ℕ) → machine_of result mem.now tape out ≡ act Load (fields i) (machine_of p mem.now tape out) }
     ensures counts { SameCounts p result }
 {
@@ -76,9 +83,8 @@ fn load(i: Instruction, p: Processor, mem: &[u16]) -> Processor
 }
 
 // The word in register d goes to the place a + m.
-fn store(i: Instruction, p: Processor, mem: &mut [u16]) -> Processor
-    requires size { length mem.old ≡ memory_size }
-    requires runs { p.halted ≡ Halt.Running }
+fn store(i: Instruction, p: Processor, mem: &mut [u16; MEMORY_SIZE]) -> Processor
+    requires { p.halted ≡ None }
     ensures machine { (tape out : List ℕ) → machine_of result mem.new tape out ≡ act Store (fields i) (machine_of p mem.old tape out) }
     ensures counts { SameCounts p result }
 {
@@ -92,7 +98,7 @@ fn store(i: Instruction, p: Processor, mem: &mut [u16]) -> Processor
 
 // Goes n on from the next instruction if register d is 0.
 fn branch(i: Instruction, p: Processor) -> Processor
-    requires { p.halted ≡ Halt.Running }
+    requires { p.halted ≡ None }
     ensures machine { (mem tape out : List ℕ) → machine_of result mem tape out ≡ act Zero (fields i) (machine_of p mem tape out) }
     ensures counts { SameCounts p result }
 {
@@ -106,7 +112,7 @@ fn branch(i: Instruction, p: Processor) -> Processor
 
 // Goes to the place in register a; then register d takes the place of the next instruction.
 fn jump(i: Instruction, p: Processor) -> Processor
-    requires { p.halted ≡ Halt.Running }
+    requires { p.halted ≡ None }
     ensures machine { (mem tape out : List ℕ) → machine_of result mem tape out ≡ act Jump (fields i) (machine_of p mem tape out) }
     ensures counts { SameCounts p result }
 {
@@ -117,25 +123,23 @@ fn jump(i: Instruction, p: Processor) -> Processor
 
 // Register d takes the tape's next word, or 0 at its end.
 fn take_word(i: Instruction, p: Processor, tape: &[u16]) -> Processor
-    requires { p.halted ≡ Halt.Running }
+    requires { p.halted ≡ None }
     ensures machine { (mem out : List ℕ) → machine_of result mem tape.now out ≡ act In (fields i) (machine_of p mem tape.now out) }
     ensures within { p.taken ≤ length tape.now → result.taken ≤ length tape.now }
     ensures sent { result.sent ≡ p.sent }
 {
-    if p.taken < tape.len() {
-        let after = p.with_register(i.d, tape[p.taken]);
-        Processor {
+    match tape.get(p.taken) {
+        Some(word) => Processor {
             taken: p.taken + 1,
-            ..after
-        }
-    } else {
-        p.with_register(i.d, 0)
+            ..p.with_register(i.d, *word)
+        },
+        None => p.with_register(i.d, 0),
     }
 }
 
 // The word in register d is put out, if there is room for it.
 fn put_out(i: Instruction, p: Processor, out: &mut [u16]) -> Option<Processor>
-    requires { p.halted ≡ Halt.Running }
+    requires { p.halted ≡ None }
     ensures { (mem tape : List ℕ) → Executed (act Out (fields i) (machine_of p mem tape out.old)) p mem mem tape out.old out.new result }
 {
     if p.sent >= out.len() {
@@ -153,12 +157,11 @@ fn put_out(i: Instruction, p: Processor, out: &mut [u16]) -> Option<Processor>
 pub(crate) fn execute(
     i: Instruction,
     p: Processor,
-    mem: &mut [u16],
+    mem: &mut [u16; MEMORY_SIZE],
     tape: &[u16],
     out: &mut [u16],
 ) -> Option<Processor>
-    requires size { length mem.old ≡ memory_size }
-    requires runs { p.halted ≡ Halt.Running }
+    requires { p.halted ≡ None }
     ensures { Executed (act (operation i.op) (fields i) (machine_of p mem.old tape.now out.old)) p mem.old mem.new tape.now out.old out.new result }
 {
     match i.op {
@@ -170,7 +173,7 @@ pub(crate) fn execute(
         11 => Some(take_word(i, p, tape)),
         12 => put_out(i, p, out),
         13..=15 => Some(Processor {
-            halted: ending(i.op),
+            halted: Some(ending(i.op)),
             ..p
         }),
         _ => unreachable(),

@@ -1,7 +1,8 @@
 // An instruction word taken apart.
 ghost use Rattle.std.specs.Prelude.{◌<◌};
 
-// The operation, the registers d, a and b, and the numbers n (in the place of a and b) and m (in the place of b).
+// The operation, the registers d, a and b, and the numbers n (in the place of a and b) and m (in the place of b). The
+// operation is its number in the course's table, since the course asks for a match on the number, 13 to 15 as one range.
 #[derive(Clone, Copy)]
 pub struct Instruction {
     pub op: u16,

@@ -13,14 +13,16 @@ ghost use Rattle.machine.specs.Processor.{machine_of, Executed, Runs};
 
 use execute::execute;
 use instruction::Instruction;
-use processor::{Halt, Processor};
+use processor::{MEMORY_SIZE, Processor};
+use thiserror::Error;
 
-// How a run went: the processor after all instructions; or the processor after so many, at an instruction that puts out
-// a word for which there is no room; or the memory has not 65,536 words.
-#[derive(Clone, Copy)]
-pub enum Ran {
-    Came(Processor),
+// Why a run comes short of its instructions: at the processor, after so many of them, one puts out a word for which there
+// is no room; or the memory has not 65,536 words.
+#[derive(Clone, Copy, PartialEq, Eq, Debug, Error)]
+pub enum RunError {
+    #[error("more words put out than there is room for")]
     NoOut(Processor, u64),
+    #[error("the memory has not 65536 words")]
     BadMemory,
 }
 
@@ -34,20 +36,47 @@ pub fn start() -> Processor
         registers: [0; 8],
         taken: 0,
         sent: 0,
-        halted: Halt::Running,
+        halted: None,
     }
 }
 
-// One step, over memory of the right size. None: there is no room for the word that it puts out.
-fn step_once(p: Processor, mem: &mut [u16], tape: &[u16], out: &mut [u16]) -> Option<Processor>
-    requires { length mem.old ≡ memory_size }
+// One step. None: there is no room for the word that it puts out.
+fn step_once(
+    p: Processor,
+    mem: &mut [u16; MEMORY_SIZE],
+    tape: &[u16],
+    out: &mut [u16],
+) -> Option<Processor>
     ensures { Executed (step (machine_of p mem.old tape.now out.old)) p mem.old mem.new tape.now out.old out.new result }
 {
-    if p.halted != Halt::Running {
+    if p.halted.is_some() {
         return Some(p);
     }
-    let i = Instruction::of(mem[p.pc as usize]);
+    let i = Instruction::from(mem[p.pc as usize]);
     execute(i, p, mem, tape, out)
+}
+
+// A run of so many instructions over a whole memory.
+fn run_whole(
+    from: Processor,
+    mem: &mut [u16; MEMORY_SIZE],
+    tape: &[u16],
+    out: &mut [u16],
+    instructions: u64,
+) -> Result<Processor, RunError>
+    ensures { Runs instructions from mem.old mem.new tape.now out.old out.new result }
+{
+    let mut p = from;
+    for k in 0..instructions {
+        if p.halted.is_some() {
+            return Ok(p);
+        }
+        match step_once(p, mem, tape, out) {
+            Some(after) => p = after,
+            None => return Err(RunError::NoOut(p, k)),
+        }
+    }
+    Ok(p)
 }
 
 // A run of so many instructions from where the processor stands.
@@ -57,27 +86,22 @@ pub fn run(
     tape: &[u16],
     out: &mut [u16],
     instructions: u64,
-) -> Ran
+) -> Result<Processor, RunError>
     ensures { Runs instructions from mem.old mem.new tape.now out.old out.new result }
 {
-    if mem.len() != 65536 {
-        return Ran::BadMemory;
+    match mem.as_mut_array::<MEMORY_SIZE>() {
+        Some(mem) => run_whole(from, mem, tape, out, instructions),
+        None => Err(RunError::BadMemory),
     }
-    let mut p = from;
-    for k in 0..instructions {
-        if p.halted != Halt::Running {
-            return Ran::Came(p);
-        }
-        match step_once(p, mem, tape, out) {
-            Some(after) => p = after,
-            None => return Ran::NoOut(p, k),
-        }
-    }
-    Ran::Came(p)
 }
 
 // One step of the machine: a run of one instruction.
-pub fn step(p: Processor, mem: &mut [u16], tape: &[u16], out: &mut [u16]) -> Ran
+pub fn step(
+    p: Processor,
+    mem: &mut [u16],
+    tape: &[u16],
+    out: &mut [u16],
+) -> Result<Processor, RunError>
     ensures { Runs 1 p mem.old mem.new tape.now out.old out.new result }
 {
     run(p, mem, tape, out, 1)

@@ -1,7 +1,8 @@
 -- What 'run' promises: from a text and a tape to the lamps, in one call.
-use Rattle.std.specs.Prelude.{◌≡◌, ℕ, ◌+◌, ◌<◌, ◌≤◌, false, T, List, length, take, drop, Some, None, Option}
+use Rattle.std.specs.Prelude.{◌≡◌, ℕ, ◌+◌, ◌<◌, ◌≤◌, false, T, List, length, take, drop, Some, None, Option, Ok, Err, Result}
 use Rattle.words.specs.Words.{memory_size}
 use Rattle.words.specs.Runs.{Seen}
+use Rattle.words.specs.Endings.{halt_code}
 use Rattle.circuit.specs.Circuit.{input_signals}
 use Rattle.language.specs.Language.{Program}
 use Rattle.language.specs.Limits.{fits}
@@ -10,12 +11,14 @@ use Rattle.cpu.specs.Signals.{flop_count, gate_count}
 use Rattle.cpu.specs.Promise.{sheet_room}
 use Rattle.stack.specs.Lamps.{RightLamps}
 use Rattle.stack.specs.declared.Lit.{Lit}
-use Rattle.stack.specs.declared.Shown.{Shown}
-use Rattle.stack.specs.declared.Shown.TheVariants.{Ran, NoProgram, Limits, NoOut, BadRoom}
+use Rattle.compiler.specs.declared.BuildError.{BuildError}
+use Rattle.compiler.specs.declared.BuildError.TheVariants as B
+use Rattle.stack.specs.declared.RunError.{RunError}
+use Rattle.stack.specs.declared.RunError.TheVariants.{NoProgram, Limits, NoOut, BadRoom}
 
 -- what is seen in the out words, the tape and the numbers that came back
 abbrev pub seen_in : List ℕ → List ℕ → Lit → Seen
-seen_in tape out l = record { shown = take l.sent out; tape_left = drop l.taken tape; ending = l.halted }
+seen_in tape out l = record { shown = take l.sent out; tape_left = drop l.taken tape; ending = halt_code l.halted }
 
 -- the words shown are the first of the out words, and the others stay
 pub record Placed (tape out out' : List ℕ) (l : Lit) : Type 0 where
@@ -55,11 +58,17 @@ pub record Keeps (text tape : List ℕ) (cycles : ℕ) (before after : Lent) (l 
   pub placed : Placed tape before.out after.out l
 
 -- Each answer under its condition; a refusal leaves everything lent as it was. Only after 'no out' may it hold anything.
-abbrev pub RunPromise : List ℕ → List ℕ → ℕ → Lent → Lent → Shown → Type 0
-RunPromise text tape cycles before after (Ran l) = HasRoom before × Keeps text tape cycles before after l
-RunPromise text tape cycles before after NoProgram = HasRoom before × ((g : Program) → Reads text g → ⊥) × (after ≡ before)
-RunPromise text tape cycles before after Limits = HasRoom before × ((g : Program) × Reads text g × (fits g ≡ false)) × (after ≡ before)
+abbrev pub RunPromise : List ℕ → List ℕ → ℕ → Lent → Lent → Result Lit RunError → Type 0
+RunPromise text tape cycles before after (Ok l) = HasRoom before × Keeps text tape cycles before after l
+RunPromise text tape cycles before after (Err NoProgram) = HasRoom before × ((g : Program) → Reads text g → ⊥) × (after ≡ before)
+RunPromise text tape cycles before after (Err Limits) = HasRoom before × ((g : Program) × Reads text g × (fits g ≡ false)) × (after ≡ before)
 -- what the lamps show after these cycles, and it is right for the program, is more than there is room for
-RunPromise text tape cycles before after NoOut = HasRoom before
+RunPromise text tape cycles before after (Err NoOut) = HasRoom before
     × ((g : Program) × Reads text g × T (fits g) × ((seen : Seen) × RightLamps g tape cycles seen × (length before.out < length seen.shown)))
-RunPromise text tape cycles before after BadRoom = (HasRoom before → ⊥) × (after ≡ before)
+RunPromise text tape cycles before after (Err BadRoom) = (HasRoom before → ⊥) × (after ≡ before)
+
+-- why nothing is shown, where no image was built
+abbrev pub refused_as : BuildError → RunError
+refused_as B.NoProgram = NoProgram
+refused_as B.Limits = Limits
+refused_as B.Short = BadRoom

@@ -3,15 +3,11 @@ ghost use Rattle.stack.specs.Lamps.{LampsRight};
 ghost use Rattle.stack.specs.Stack.{LayersJoin};
 
 // The layers join: it knows of no drawing, no code and no number of cycles.
-pub fn layers_join() -> u8
+pub fn layers_join()
     ensures { LayersJoin }
-{
-    0
-}
+{}
 
 // What the board shows after so many cycles is right for the program.
-pub fn lamps_right() -> u8
+pub fn lamps_right()
     ensures { LampsRight }
-{
-    0
-}
+{}

@@ -1,8 +1,11 @@
--- A text's words from its front. First a blank goes and any other byte joins the first word; then how far the first word
--- goes, as a loop finds it; then what is cut off: blanks and a word.
-use Rattle.std.proofs.Common.{◌≡◌, ℕ, zero, suc, ◌+◌, ◌-◌, ◌<◌, ◌≤◌, Bool, true, false, cond, List, [], ◌∷◌, ◌++◌, length, get_or, take, drop, sym, refl, ap, ◌∙◌, append_assoc, append-nil, add-zero, arith}
-use Rattle.std.proofs.lemmas.Bool.{both_ways}
-use Rattle.std.proofs.lemmas.List.{take_more, drop_more, drop_all, length-drop, length-take, get_or-drop, nil_from_length}
+-- A text's words from its front. First a blank goes and any other byte joins the first word; then where the first word
+-- begins and how far it goes; then what is cut off: blanks and a word.
+use Rattle.std.proofs.Common.{◌≡◌, ℕ, zero, suc, ◌+◌, ◌-◌, ◌<◌, ◌≤◌, Bool, true, false, cond, not, List, [], ◌∷◌, length, get_or, take, drop, nat_lt, Some, None, Option, sym, refl, ap, ◌∙◌, add-zero, arith}
+use Rattle.std.specs.List.{position, position_or_len}
+use Rattle.std.specs.Option.{unwrap_or}
+use Rattle.std.proofs.lemmas.Bool.{both_ways, not-true, ltb-true, ltb-false}
+use Rattle.std.proofs.lemmas.List.{drop_all, length-drop, length-take, get_or-drop}
+use Rattle.std.proofs.lemmas.List.Sums.{passes_at_first, prefix_len-le-length}
 use Rattle.text.specs.Cut.{Cut}
 use Rattle.text.specs.Text.{words, blank, split, close}
 
@@ -19,70 +22,110 @@ split_letter c cs e = ap (λ (b : Bool). cond {A = Split} b ([], words cs) (c �
 pub words_blank : (c : ℕ) (cs : List ℕ) → blank c ≡ true → words (c ∷ cs) ≡ words cs
 words_blank c cs e = ap (λ (r : Split). close r.0 r.1) (split_blank c cs e)
 
-pub blanks_more : (s : List ℕ) (i : ℕ) → i < length s → blank (get_or s i 0) ≡ true → words s ≡ words (drop i s) → words s ≡ words (drop (i + 1) s)
-blanks_more s i h b inv = inv ∙ ap words (drop_more s i 0 h) ∙ words_blank (get_or s i 0) (drop (i + 1) s) b
+-- Where the first byte stands that is no blank, and where the first blank stands.
+abbrev pub letter : ℕ → Bool
+letter c = not (blank c)
 
--- the first i bytes are of the first word, and it goes on in what is left
-pub record Open (s : List ℕ) (i : ℕ) : Type 0 where
-  pub word : (split s).0 ≡ take i s ++ (split (drop i s)).0
-  pub rest : (split s).1 ≡ (split (drop i s)).1
+pub words_skip : (s : List ℕ) → words s ≡ words (drop (position_or_len letter s) s)
+words_skip [] = refl
+words_skip (c ∷ cs) = skip (blank c) refl (words_skip cs)
+  where
+    skip : (b : Bool) → blank c ≡ b → words cs ≡ words (drop (position_or_len letter cs) cs) → words (c ∷ cs) ≡ words (drop (position_or_len letter (c ∷ cs)) (c ∷ cs))
+    skip true e h =
+        let n : position_or_len letter (c ∷ cs) ≡ suc (position_or_len letter cs) = ap (λ (b : Bool). cond (not (not b)) (1 + position_or_len letter cs) 0) e ∙ omega arith in
+        words_blank c cs e ∙ h ∙ ap (λ (i : ℕ). words (drop i (c ∷ cs))) (sym n)
+    skip false e h = ap (λ (b : Bool). words (drop (cond (not (not b)) (1 + position_or_len letter cs) 0) (c ∷ cs))) (sym e)
 
-pub open_more : (s : List ℕ) (i : ℕ) → i < length s → blank (get_or s i 0) ≡ false → Open s i → Open s (i + 1)
-open_more s i h b o =
-    let c = get_or s i 0 in let cs = drop (i + 1) s in
-    let e : split (drop i s) ≡ (c ∷ (split cs).0, (split cs).1) = ap split (drop_more s i 0 h) ∙ split_letter c cs b in
-    record {
-      word = o.word ∙ ap (λ (r : Split). take i s ++ r.0) e ∙ sym (append_assoc (take i s) (c ∷ []) (split cs).0) ∙ ap (λ (x : List ℕ). x ++ (split cs).0) (sym (take_more s i 0 h));
-      rest = o.rest ∙ ap (λ (r : Split). r.1) e;
-    }
-
--- the word ends: at a blank, or with the text
+-- the first word is what stands before the first blank
 pub record Closed (s : List ℕ) (i : ℕ) : Type 0 where
   pub word : (split s).0 ≡ take i s
   pub rest : (split s).1 ≡ words (drop i s)
 
-pub closed_blank : (s : List ℕ) (i : ℕ) → i < length s → blank (get_or s i 0) ≡ true → Open s i → Closed s i
-closed_blank s i h b o =
-    let c = get_or s i 0 in let cs = drop (i + 1) s in
-    let e : split (drop i s) ≡ ([], words cs) = ap split (drop_more s i 0 h) ∙ split_blank c cs b in
-    record {
-      word = o.word ∙ ap (λ (r : Split). take i s ++ r.0) e ∙ append-nil (take i s);
-      rest = o.rest ∙ ap (λ (r : Split). r.1) e ∙ sym (ap words (drop_more s i 0 h) ∙ words_blank c cs b);
-    }
-
-pub closed_all : (s : List ℕ) (i : ℕ) → length s ≤ i → Open s i → Closed s i
-closed_all s i h o =
-    let e : drop i s ≡ [] = drop_all i s h in
-    record {
-      word = o.word ∙ ap (λ (r : List ℕ). take i s ++ (split r).0) e ∙ append-nil (take i s);
-      rest = o.rest ∙ ap (λ (r : List ℕ). (split r).1) e ∙ sym (ap words e);
-    }
+pub closed : (s : List ℕ) → Closed s (position_or_len blank s)
+closed [] = record { word = refl; rest = refl }
+closed (c ∷ cs) = close_one (blank c) refl (closed cs)
+  where
+    close_one : (b : Bool) → blank c ≡ b → Closed cs (position_or_len blank cs) → Closed (c ∷ cs) (position_or_len blank (c ∷ cs))
+    close_one true e h =
+        let n : position_or_len blank (c ∷ cs) ≡ 0 = ap (λ (b : Bool). cond (not b) (1 + position_or_len blank cs) 0) e in
+        record {
+          word = ap (λ (r : Split). r.0) (split_blank c cs e) ∙ ap (λ (i : ℕ). take i (c ∷ cs)) (sym n);
+          rest = ap (λ (r : Split). r.1) (split_blank c cs e) ∙ sym (words_blank c cs e) ∙ ap (λ (i : ℕ). words (drop i (c ∷ cs))) (sym n);
+        }
+    close_one false e h =
+        let n : position_or_len blank (c ∷ cs) ≡ suc (position_or_len blank cs) = ap (λ (b : Bool). cond (not b) (1 + position_or_len blank cs) 0) e ∙ omega arith in
+        record {
+          word = ap (λ (r : Split). r.0) (split_letter c cs e) ∙ ap (λ (w : List ℕ). c ∷ w) h.word ∙ ap (λ (i : ℕ). take i (c ∷ cs)) (sym n);
+          rest = ap (λ (r : Split). r.1) (split_letter c cs e) ∙ h.rest ∙ ap (λ (i : ℕ). words (drop i (c ∷ cs))) (sym n);
+        }
 
 -- with at least one byte it is a word
-pub words_closed : (s : List ℕ) (i : ℕ) → 0 < length (take i s) → Closed s i → words s ≡ take i s ∷ words (drop i s)
+words_closed : (s : List ℕ) (i : ℕ) → 0 < length (take i s) → Closed s i → words s ≡ take i s ∷ words (drop i s)
 words_closed s i h o = ap (λ (x : List ℕ). close x (split s).1) o.word ∙ ap (close (take i s)) o.rest ∙ opened (take i s) (words (drop i s)) h
   where
     opened : (x : List ℕ) (ws : List (List ℕ)) → 0 < length x → close x ws ≡ x ∷ ws
     opened [] ws h = absurd (elim h [ ])
     opened (c ∷ cs) ws h = refl
 
-pub not_first : (s : List ℕ) (i : ℕ) → blank (get_or s i 0) ≡ true → blank (get_or s 0 0) ≡ false → 0 < i
-not_first s zero b n = absurd (both_ways (blank (get_or s 0 0)) n b)
-not_first s (suc i) b n = omega arith
+-- where a text begins with a byte that is no blank, its first word has a byte
+letter_first : (t : List ℕ) → letter (get_or t 0 0) ≡ true → 0 < length t → 0 < position_or_len blank t
+letter_first t e h = first (position_or_len blank t) refl
+  where
+    first : (n : ℕ) → position_or_len blank t ≡ n → 0 < n
+    first zero z = let p : blank (get_or t 0 0) ≡ true = ap (λ (n : ℕ). blank (get_or t n 0)) (sym z) ∙ passes_at_first blank t 0 (omega arith) in absurd (both_ways (blank (get_or t 0 0)) (not-true (blank (get_or t 0 0)) e) p)
+    first (suc n) z = omega arith
 
--- blanks, then a word, as the code cuts them
-pub starts_letter : (s t : List ℕ) (b : ℕ) → t ≡ drop b s → (b < length s → blank (get_or s b 0) ≡ false) → 0 < length t → blank (get_or t 0 0) ≡ false
-starts_letter s t b e f h =
-    let l : length t ≡ length s - b = ap length e ∙ length-drop b s in
-    let g : get_or t 0 0 ≡ get_or s b 0 = ap (λ (x : List ℕ). get_or x 0 0) e ∙ get_or-drop b s 0 0 ∙ ap (λ (i : ℕ). get_or s i 0) (add-zero b) in
-    ap blank g ∙ f (omega arith)
+-- the place that is found, or the length where there is none
+found_place : (p : ℕ → Bool) (s : List ℕ) (i : ℕ) → position p s ≡ Some i → (i ≡ position_or_len p s) × (i < length s)
+found_place p s i = at (nat_lt (position_or_len p s) (length s)) refl
+  where
+    at : (b : Bool) → nat_lt (position_or_len p s) (length s) ≡ b → cond b (Some (position_or_len p s)) None ≡ Some i → (i ≡ position_or_len p s) × (i < length s)
+    at true e h = let same : position_or_len p s ≡ i = cc in (sym same, omega (arith, ltb-true (position_or_len p s) (length s) e))
+    at false e h = absurd (cc)
 
-pub cut_some : (s t w r : List ℕ) (b n : ℕ) → t ≡ drop b s → words s ≡ words (drop b s) → 0 < n → n ≤ length t → (split t).0 ≡ take n t → (split t).1 ≡ words (drop n t) → w ≡ take n t → r ≡ drop n t → Cut s w r
-cut_some s t w r b n e h p m c1 c2 q1 q2 =
-    let lt : length t ≡ length s - b = ap length e ∙ length-drop b s in
-    let lr : length r ≡ length t - n = ap length q2 ∙ length-drop n t in
-    let some : 0 < length (take n t) = simp length-take (omega arith) in
-    record { text = h ∙ sym (ap words e) ∙ words_closed t n some (record { word = c1; rest = c2 }) ∙ ap (λ (x : List ℕ). x ∷ words (drop n t)) (sym q1) ∙ ap (λ (x : List ℕ). w ∷ words x) (sym q2); less = omega arith }
+found_none : (p : ℕ → Bool) (s : List ℕ) → position p s ≡ None → length s ≤ position_or_len p s
+found_none p s = at (nat_lt (position_or_len p s) (length s)) refl
+  where
+    at : (b : Bool) → nat_lt (position_or_len p s) (length s) ≡ b → ◌≡◌ {A = Option ℕ} (cond b (Some (position_or_len p s)) None) None → length s ≤ position_or_len p s
+    at true e h = absurd (cc)
+    at false e h = ltb-false (position_or_len p s) (length s) e
 
-pub cut_none : (s t : List ℕ) (b : ℕ) → t ≡ drop b s → words s ≡ words (drop b s) → length t ≡ 0 → words s ≡ []
-cut_none s t b e h z = h ∙ sym (ap words e) ∙ ap words (nil_from_length t z)
+found_or_all : (p : ℕ → Bool) (s : List ℕ) → unwrap_or (position p s) (length s) ≡ position_or_len p s
+found_or_all p s = at (nat_lt (position_or_len p s) (length s)) refl
+  where
+    at : (b : Bool) → nat_lt (position_or_len p s) (length s) ≡ b → unwrap_or (cond b (Some (position_or_len p s)) None) (length s) ≡ position_or_len p s
+    at true e = refl
+    at false e = omega (arith, ltb-false (position_or_len p s) (length s) e, prefix_len-le-length (λ x. not (p x)) s)
+
+-- what is cut off: blanks and a word, by the places that are found
+pub cut_none : (s : List ℕ) → position letter s ≡ None → words s ≡ []
+cut_none s e = words_skip s ∙ ap words (drop_all (position_or_len letter s) s (found_none letter s e))
+
+pub cut_some : (s t w r : List ℕ) (b n : ℕ) → position letter s ≡ Some b → t ≡ drop b s → n ≡ unwrap_or (position blank t) (length t) → w ≡ take n t → r ≡ drop n t → Cut s w r
+cut_some s t w r b n e q1 q2 q3 q4 =
+    let p = found_place letter s b e in
+    let lt : length t ≡ length s - b = ap length q1 ∙ length-drop b s in
+    let m : n ≡ position_or_len blank t = q2 ∙ found_or_all blank t in
+    let lm : position_or_len blank t ≤ length t = prefix_len-le-length letter t in
+    let g : get_or t 0 0 ≡ get_or s (position_or_len letter s) 0 = ap (λ (x : List ℕ). get_or x 0 0) q1 ∙ get_or-drop b s 0 0 ∙ ap (λ (i : ℕ). get_or s i 0) (add-zero b ∙ p.0) in
+    let some : 0 < n = omega (arith, letter_first t (ap letter g ∙ passes_at_first letter s 0 (omega arith)) (omega arith)) in
+    let lr : length r ≡ length t - n = ap length q4 ∙ length-drop n t in
+    let taken : 0 < length (take n t) = simp length-take (omega arith) in
+    let all : words s ≡ words t = words_skip s ∙ ap (λ (i : ℕ). words (drop i s)) (sym p.0) ∙ sym (ap words q1) in
+    record {
+      text = all ∙ words_closed t n taken (rw m (closed t)) ∙ ap (λ (x : List ℕ). x ∷ words (drop n t)) (sym q3) ∙ ap (λ (x : List ℕ). w ∷ words x) (sym q4);
+      less = omega arith;
+    }
+
+-- a text has no more words than bytes
+close_up : (w : List ℕ) (ws : List (List ℕ)) → length ws ≤ length (close w ws)
+close_up [] ws = omega arith
+close_up (c ∷ cs) ws = omega arith
+
+pub words_few : (s : List ℕ) → length (words s) ≤ length s
+words_few [] = omega arith
+words_few (c ∷ cs) = few (blank c) refl (words_few cs)
+  where
+    few : (b : Bool) → blank c ≡ b → length (words cs) ≤ length cs → length (words (c ∷ cs)) ≤ length (c ∷ cs)
+    few true e h = omega (arith, ap length (words_blank c cs e))
+    few false e h = omega (arith, close_up (split cs).0 (split cs).1, ap (λ (r : Split). length (close r.0 r.1)) (split_letter c cs e))

@@ -1,8 +1,8 @@
 -- A number digit by digit, as a loop reads it: one digit more at a decimal's end; what holds of every decimal; a number
 -- so far; and each reason why a word is no number.
-use Rattle.std.proofs.Common.{◌≡◌, ℕ, zero, suc, ◌+◌, ◌-◌, ◌*◌, ◌/◌, ◌<◌, ◌≤◌, List, [], ◌∷◌, ◌++◌, length, get_or, take, Some, None, Option, sym, refl, ap, ◌∙◌, subst, arith, ltb→lt, lt→ltb}
+use Rattle.std.proofs.Common.{◌≡◌, ℕ, zero, suc, ◌+◌, ◌-◌, ◌*◌, ◌/◌, ◌<◌, ◌≤◌, List, [], ◌∷◌, ◌++◌, length, get_or, take, Some, None, Option, sym, refl, ap, ◌∙◌, subst, arith, le_refl, ltb→lt, lt→ltb}
 use native.Mathlib.Nat.{div-div-eq-div-mul}
-use Rattle.std.proofs.lemmas.List.{take_more, get_or-take, length-take-le}
+use Rattle.std.proofs.lemmas.List.{take_all, take_more, get_or-take, length-take-le}
 use Rattle.text.specs.Text.{digit, decimal}
 use Rattle.text.specs.Numbers.{number_of}
 use Rattle.text.proofs.Decimals.{decimal_cases, number_of_decimal, number_of_sound}
@@ -88,11 +88,7 @@ number_more w (suc i) n h lo hi z b r =
     }
 
 pub number_all : (w : List ℕ) (n : ℕ) → 0 < length w → NumberSoFar w (length w) n → number_of w ≡ Some n
-number_all w n h r = ap number_of (sym (take_all_here w) ∙ r.some h) ∙ number_of_decimal n (lt→ltb n 100000 r.small)
-  where
-    take_all_here : (w : List ℕ) → take (length w) w ≡ w
-    take_all_here [] = refl
-    take_all_here (x ∷ w) = ap (λ y. x ∷ y) (take_all_here w)
+number_all w n h r = ap number_of (sym (take_all (length w) w (le_refl _)) ∙ r.some h) ∙ number_of_decimal n (lt→ltb n 100000 r.small)
 
 -- why a word is no number
 pub no_number : (w : List ℕ) → ((m : ℕ) → m < 100000 → w ≡ decimal m → ⊥) → number_of w ≡ None

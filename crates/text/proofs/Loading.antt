@@ -1,10 +1,10 @@
 -- From the words of a text to the trees of its program: within the limits the bare nodes of the words are those of the
 -- program's procedures, and once linked they are its trees.
-use Rattle.std.proofs.Common.{◌≡◌, ℕ, ◌≤◌, true, false, ◌&&◌, T, leb, List, [], ◌∷◌, ◌++◌, length, take, drop, Some, sym, refl, ap, ◌∙◌, append-nil, arith}
+use Rattle.std.proofs.Common.{◌≡◌, ℕ, ◌≤◌, true, false, ◌&&◌, T, leb, List, [], ◌∷◌, ◌++◌, length, take, drop, Some, Option, Ok, sym, refl, ap, ◌∙◌, subst, append-nil, arith}
 use Rattle.std.proofs.lemmas.List.{take-append-drop}
-use Rattle.std.proofs.lemmas.Bool.{and_parts, and_from, leb-true, le-leb, both_ways}
+use Rattle.std.proofs.lemmas.Bool.{and_parts, leb-true, both_ways}
 use Rattle.words.proofs.Slots.{Slot}
-use Rattle.words.proofs.Tests.{TLeft, TRight, true_T}
+use Rattle.words.proofs.Tests.{TLeft, TRight, T_true}
 use Rattle.language.specs.Language.{Program}
 use Rattle.language.specs.Nodes.{most_nodes}
 use Rattle.language.specs.declared.nodes.Node.{Node}
@@ -12,14 +12,15 @@ use Rattle.text.specs.declared.reader.Need.{Need}
 use Rattle.text.specs.declared.reader.Need.TheVariants.{Start, Number, Owed}
 use Rattle.text.specs.declared.reader.Reader.{Reader}
 use Rattle.text.specs.Text.{words, decimal, write_procs, writable, writable_procs, fits_procs, signs, Reads, fits, most_globals, most_cells, most_procs, most_signs}
+use Rattle.text.specs.Verdicts.{Judged}
 use Rattle.text.specs.Kinds.{kind}
 use Rattle.text.specs.Reading.{run, fresh, done}
-use Rattle.text.specs.Filling.{bare_nodes, WrittenAt, WrittenSoFar}
+use Rattle.text.specs.Filling.{bare_nodes, WrittenAt, WrittenSoFar, Filled}
 use Rattle.text.specs.Links.{Linked}
 use Rattle.text.specs.Table.{ProcsAt}
 use Rattle.text.proofs.Decimals.{number_of_decimal}
 use Rattle.text.proofs.Written.{Knows}
-use Rattle.text.proofs.Judging.{is_done, program_read}
+use Rattle.text.proofs.Judging.{is_done, read_done}
 use Rattle.text.proofs.Fillings.{bare_nodes_number}
 use Rattle.text.proofs.Rows.{row_procs, rows_procs}
 use Rattle.text.proofs.Trees.{tree_procs}
@@ -64,28 +65,35 @@ program_row s g r f =
     ∙ number_no_node N (write_procs g.procs) (TLeft w2 w3 h2)
     ∙ rows_procs G N (omega (arith, l.globals)) (omega (arith, l.procs)) g.procs (TRight w2 w3 h2) l.numbers
 
--- a program that a reader has read to its end, with its trees
-pub record Stands (s : List ℕ) (a : Reader) (nodes : List Node) : Type 0 where
+-- what a reader has read that has read a program within the limits to its end
+pub record Complete (s : List ℕ) (a : Reader) : Type 0 where
   pub program : Program
   pub reads : Reads s program
   pub within : T (fits program)
   pub knows : Knows a program
-  pub few : length program.procs ≤ most_procs
-  pub procs : ProcsAt nodes 0 program.procs
+  pub done : is_done a ≡ true
+  pub kept : a.fits ≡ true
+  pub few : a.signs ≤ most_signs
 
-pub stands : (s : List ℕ) (a : Reader) (bare nodes : List Node) (ends : List ℕ) → Some a ≡ run (words s) fresh → is_done a ≡ true → a.fits ≡ true → a.signs ≤ most_signs → length bare ≡ most_nodes → WrittenSoFar a bare [] (bare_nodes (words s)).1 → Linked bare nodes ends a.signs → Stands s a nodes
-stands s a bare nodes ends e d f h len written linked =
-    let p = program_read s a e d in
-    let g = p.0 in let ps = g.procs in
-    let ok : fits g ≡ true = sym p.2.fits ∙ and_from a.fits (leb a.signs most_signs) f (le-leb a.signs most_signs h) in
-    let row : take a.signs bare ≡ row_procs ps = written_all a.need a.exprs a.stmts a.procs a.signs bare (bare_nodes (words s)).1 d written ∙ program_row s g p.1 ok in
+pub complete : (s : List ℕ) (a : Reader) (o : Option Reader) → o ≡ Some a → o ≡ run (words s) fresh → ((t : List ℕ) → Some a ≡ run (words t) fresh → Judged t (Ok tt)) → Complete s a
+complete s a o is read judged =
+    let e = sym is ∙ read in let j = judged s e in
+    let ok : fits j.0 ≡ true = T_true (fits j.0) j.2 in
+    let d = read_done s j.0 j.1 in
+    let same : d.0 ≡ a = cc (e ∙ d.1) in
+    let knows : Knows a j.0 = subst (λ (x : Reader). Knows x j.0) same d.3 in
+    let kept = and_parts a.fits (leb a.signs most_signs) (knows.fits ∙ ok) in
+    record { program = j.0; reads = j.1; within = j.2; knows = knows; done = subst (λ (x : Reader). is_done x ≡ true) same d.2; kept = kept.0; few = leb-true a.signs most_signs kept.1 }
+
+-- its procedures, as the table is made from them
+pub count_few : (s : List ℕ) (a : Reader) → Complete s a → a.count ≤ most_procs
+count_few s a c = omega (arith, c.knows.count, (within c.program (T_true (fits c.program) c.within)).procs)
+
+pub procs_stand : (s : List ℕ) (a : Reader) (o : Option Reader) (bare nodes : List Node) (c : Complete s a) → o ≡ Some a → length bare ≡ most_nodes → Filled (words s) bare o → (ends : List ℕ) × Linked bare nodes ends a.signs → ProcsAt nodes 0 c.program.procs
+procs_stand s a o bare nodes c is len filled l =
+    let ends = l.0 in let linked = l.1 in
+    let ps = c.program.procs in let size = c.knows.signs in
+    let written : WrittenSoFar a bare [] (bare_nodes (words s)).1 = subst (Filled (words s) bare) is filled c.kept c.few in
+    let row : take a.signs bare ≡ row_procs ps = written_all a.need a.exprs a.stmts a.procs a.signs bare (bare_nodes (words s)).1 c.done written ∙ program_row s c.program c.reads (T_true (fits c.program) c.within) in
     let slot : Slot bare 0 (row_procs ps) = record { front = []; back = drop a.signs bare; at = refl; is = sym (take-append-drop a.signs bare) ∙ ap (λ x. x ++ drop a.signs bare) row } in
-    let size = p.2.signs in
-    record {
-      program = g;
-      reads = p.1;
-      within = true_T (fits g) ok;
-      knows = p.2;
-      few = (within g ok).procs;
-      procs = tree_procs bare nodes ends a.signs linked (omega (arith, linked.size)) ps 0 most_nodes slot (omega arith) (omega arith);
-    }
+    tree_procs bare nodes ends a.signs linked (omega (arith, linked.size)) ps 0 most_nodes slot (omega arith) (omega arith)

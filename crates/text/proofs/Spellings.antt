@@ -1,9 +1,8 @@
 -- The kinds of words: a word that has a kind is written as that kind; a decimal has none; and the search through the
 -- table of kinds, one kind at a time.
-use Rattle.std.proofs.Common.{◌≡◌, ℕ, ◌+◌, ◌/◌, ◌<◌, ◌≤◌, Bool, true, false, cond, List, [], ◌∷◌, get_or, drop, Some, None, Option, sym, refl, ap, ◌∙◌, arith}
+use Rattle.std.proofs.Common.{◌≡◌, ℕ, ◌/◌, true, false, List, [], ◌∷◌, Some, None, Option, sym, refl, ap, ◌∙◌, arith}
 use Rattle.std.specs.Str.{bytes_eq}
 use Rattle.std.proofs.lemmas.Slice.Eq.{bytes_eq-Decides}
-use Rattle.std.proofs.lemmas.List.{drop_more, drop_all}
 use Rattle.std.proofs.lemmas.Bool.{both_ways, cond_both, le-ltb}
 use Rattle.words.proofs.Tests.{not_nothing}
 use Rattle.text.specs.declared.kinds.Kind.{Kind}
@@ -57,28 +56,10 @@ all_lettered K.Program = refl
 all_lettered K.Proc = refl
 
 -- the search through all kinds gives the kind
-kind_lookup : (w : List ℕ) → lookup w kinds ≡ kind w
+pub kind_lookup : (w : List ℕ) → lookup w kinds ≡ kind w
 unfolding kind
 kind_lookup w = cond_both (lettered w) (lookup w kinds) None (λ (o : Option Kind). lookup w kinds ≡ o) (λ t. refl) (λ t. go (lookup w kinds) refl t)
   where
     go : (o : Option Kind) → lookup w kinds ≡ o → lettered w ≡ false → o ≡ None
     go None e t = refl
     go (Some k) e t = absurd (both_ways (lettered w) t (ap lettered (lookup_sound w kinds k e) ∙ all_lettered k))
-
--- the search, one kind on: it is found, it is not this one, the table is at its end
-pub lookup_hit : (w : List ℕ) (i : ℕ) (k : Kind) → i < 21 → lookup w kinds ≡ lookup w (drop i kinds) → w ≡ spelled (get_or kinds i k) → Some (get_or kinds i k) ≡ kind w
-lookup_hit w i k h inv e =
-    let j = get_or kinds i k in
-    sym (sym (kind_lookup w) ∙ inv ∙ ap (lookup w) (drop_more kinds i k h) ∙ ap (λ (b : Bool). cond b (Some j) (lookup w (drop (i + 1) kinds))) ((bytes_eq-Decides w (spelled j)).1 e))
-
-pub lookup_miss : (w : List ℕ) (i : ℕ) (k : Kind) → i < 21 → lookup w kinds ≡ lookup w (drop i kinds) → (w ≡ spelled (get_or kinds i k) → ⊥) → lookup w kinds ≡ lookup w (drop (i + 1) kinds)
-lookup_miss w i k h inv f =
-    let j = get_or kinds i k in
-    inv ∙ ap (lookup w) (drop_more kinds i k h) ∙ ap (λ (b : Bool). cond b (Some j) (lookup w (drop (i + 1) kinds))) (is_false (bytes_eq w (spelled j)) (λ t. f ((bytes_eq-Decides w (spelled j)).0 t)))
-  where
-    is_false : (b : Bool) → (b ≡ true → ⊥) → b ≡ false
-    is_false true g = absurd (g refl)
-    is_false false g = refl
-
-pub lookup_end : (w : List ℕ) (i : ℕ) → 21 ≤ i → lookup w kinds ≡ lookup w (drop i kinds) → None ≡ kind w
-lookup_end w i h inv = sym (sym (kind_lookup w) ∙ inv ∙ ap (lookup w) (drop_all i kinds h))

@@ -1,6 +1,6 @@
 -- One word more: the three things that a step can be, and how far the counters go. Every step is the first word, a number
 -- that is taken, or a word that begins what is owed.
-use Rattle.std.proofs.Common.{◌≡◌, ℕ, zero, suc, ◌+◌, ◌≤◌, true, List, Some, None, Option, sym, refl, ap, ◌∙◌, subst, arith}
+use Rattle.std.proofs.Common.{◌≡◌, ℕ, zero, suc, ◌+◌, ◌*◌, ◌^◌, ◌<◌, ◌≤◌, true, List, [], ◌∷◌, length, Some, None, Option, sym, refl, ap, ◌∙◌, subst, arith}
 use Rattle.std.proofs.lemmas.Bool.{and_parts}
 use Rattle.words.proofs.Tests.{not_nothing}
 use Rattle.text.specs.declared.kinds.Kind.{Kind}
@@ -12,12 +12,10 @@ use Rattle.text.specs.declared.reader.Use.TheVariants.{Globals, Cells, Procs, Lo
 use Rattle.text.specs.declared.reader.Need.{Need}
 use Rattle.text.specs.declared.reader.Need.TheVariants.{Start, Number, Owed}
 use Rattle.text.specs.declared.reader.Reader.{Reader}
-use Rattle.text.specs.Text.{words}
-use Rattle.text.specs.Cut.{Cut}
 use Rattle.text.specs.Kinds.{kind}
 use Rattle.text.specs.Numbers.{number_of}
 use Rattle.text.specs.Shapes.{shape}
-use Rattle.text.specs.Reading.{and_then, more, owed_after, moved, enter_word, with_need, begun, begin_word, taken, take_number, step_at, step, run, fresh}
+use Rattle.text.specs.Reading.{and_then, more, owed_after, moved, enter_word, with_need, begun, begin_word, taken, take_number, step_at, step, run, fresh, Roomy}
 
 -- what is owed after a word of a kind
 abbrev pub owes : Kind → Reader → Option (ℕ × ℕ × ℕ)
@@ -78,10 +76,6 @@ stepped_at Owed w a b q h = stepped_word w a b (kind w) q refl h
 
 pub stepped : (w : List ℕ) (a b : Reader) → Some b ≡ step w a → Stepped w a b
 stepped w a b h = stepped_at a.need w a b refl h
-
--- what is left to run, one word on
-pub run_more : (s rest w after : List ℕ) (a b : Reader) → run (words s) fresh ≡ run (words rest) a → Cut rest w after → Some b ≡ step w a → run (words s) fresh ≡ run (words after) b
-run_more s rest w after a b inv cut e = inv ∙ ap (λ ws. run ws a) cut.text ∙ ap (λ o. and_then o (run (words after))) (sym e)
 
 -- One word adds at most so much to the counters; the limits that are kept were kept before.
 pub record Grown (a b : Reader) : Type 0 where
@@ -165,3 +159,28 @@ grown_by w a b (enters k t q e f r) =
 
 pub grown : (w : List ℕ) (a b : Reader) → Some b ≡ step w a → Grown a b
 grown w a b e = grown_by w a b (stepped w a b e)
+
+-- A reader is underway: of the words ws it has read some, and those that are left give from it what all of them give from
+-- the start. Each word adds at most two to a counter.
+pub record Underway (ws left : List (List ℕ)) (a : Reader) : Type 0 where
+  pub reads : run ws fresh ≡ run left a
+  pub exprs : a.exprs + 2 * length left ≤ 2 * length ws
+  pub stmts : a.stmts + 2 * length left ≤ 2 * length ws
+  pub signs : a.signs + length left ≤ length ws
+
+pub underway_more : (ws left left' : List (List ℕ)) (w : List ℕ) (a b : Reader) → Underway ws left a → left ≡ w ∷ left' → Some b ≡ step w a → Underway ws left' b
+underway_more ws left left' w a b u e h =
+    let g : Grown a b = grown w a b h in let l : length left ≡ length left' + 1 = ap length e ∙ omega arith in
+    record { reads = u.reads ∙ ap (λ vs. run vs a) e ∙ ap (λ o. and_then o (run left')) (sym h); exprs = omega arith; stmts = omega arith; signs = omega arith }
+
+-- a word that can't stand where it does ends the reading
+pub underway_stuck : (ws left left' : List (List ℕ)) (w : List ℕ) (a : Reader) → Underway ws left a → left ≡ w ∷ left' → None ≡ step w a → run ws fresh ≡ None
+underway_stuck ws left left' w a u e h = u.reads ∙ ap (λ vs. run vs a) e ∙ ap (λ o. and_then o (run left')) (sym h)
+
+-- all words are read
+pub underway_end : (ws left : List (List ℕ)) (a : Reader) → Underway ws left a → left ≡ [] → Some a ≡ run ws fresh
+underway_end ws left a u e = sym (u.reads ∙ ap (λ vs. run vs a) e)
+
+-- the counters have room for one word more
+pub underway_roomy : (ws left left' : List (List ℕ)) (w : List ℕ) (a : Reader) → Underway ws left a → left ≡ w ∷ left' → length ws < 2 ^ 63 → Roomy a
+underway_roomy ws left left' w a u e h = let l : length left ≡ length left' + 1 = ap length e ∙ omega arith in record { exprs = omega arith; stmts = omega arith; signs = omega arith }

@@ -1,7 +1,7 @@
 -- The table of procedures, one entry after the other: what is done, what is left, and one entry more.
-use Rattle.std.proofs.Common.{◌≡◌, ℕ, zero, suc, ◌+◌, ◌<◌, ◌≤◌, List, [], ◌∷◌, length, drop, set, sym, refl, ap, ◌∙◌, subst, ⊎_elim, arith}
+use Rattle.std.proofs.Common.{◌≡◌, ℕ, zero, suc, ◌+◌, ◌<◌, ◌≤◌, List, [], ◌∷◌, ◌++◌, length, drop, set, sym, refl, ap, ◌∙◌, subst, ⊎_elim, arith}
 use mathlib.Core.Option.{some}
-use Rattle.std.proofs.lemmas.List.{get_or-set_same, get_or-set_other}
+use Rattle.std.proofs.lemmas.List.{get_or-set_same, get_or-set_other, get_or_append_left}
 use Rattle.std.proofs.lemmas.Bool.{cases_eq}
 use Rattle.language.specs.Language.{Stmt, Proc, proc_at}
 use Rattle.language.specs.Nodes.{node_at, IsStmt, StmtAt, entry_at, IsProc, Holds}
@@ -9,7 +9,7 @@ use Rattle.language.specs.declared.nodes.Node.{Node}
 use Rattle.language.specs.declared.nodes.Node.TheVariants as N
 use Rattle.language.specs.declared.nodes.Procedure.{Procedure}
 use Rattle.text.specs.Text.{signs_stmt}
-use Rattle.text.specs.Table.{ProcsAt, SameEntries}
+use Rattle.text.specs.Table.{ProcsAt}
 
 -- the f-th procedure, and those after it
 nth_proc : (ps : List Proc) (f : ℕ) → f < length ps → (p : Proc) × (drop f ps ≡ p ∷ drop (suc f) ps) × (proc_at ps f ≡ some p)
@@ -51,6 +51,10 @@ next_proc nodes table i f ps h t =
     let k : suc f ≡ f + 1 = omega arith in
     record { proc = p.0; named = p.2; inside = (let b : i + 1 < length nodes = stands_inside nodes (i + 1) p.0.body s.1 in omega arith); node = s.0; body = s.1; others = subst (λ (m : ℕ). ProcsAt nodes (i + 1 + signs_stmt p.0.body) (drop m ps)) k s.2 }
 
+-- the next procedure's node is there, where some procedures stand
+pub next_inside : (nodes : List Node) (table : List Procedure) (i f count : ℕ) → (ps : List Proc) × (length ps ≡ count) × ProcsAt nodes 0 ps → f < count → ((ps : List Proc) → length ps ≡ count → ProcsAt nodes 0 ps → Tabled nodes table i f ps) → i < length nodes
+next_inside nodes table i f count p h t = (next_proc nodes table i f p.0 (omega (arith, p.1)) (t p.0 p.1 p.2)).inside
+
 -- one entry more
 pub tabled_more : (nodes : List Node) (table : List Procedure) (i f : ℕ) (ps : List Proc) (l b a : ℕ) → f < length ps → f < length table → node_at nodes i ≡ N.Proc l b a → Tabled nodes table i f ps → Tabled nodes (set table f (record { locals = l; body = b })) a (f + 1) ps
 tabled_more nodes table i f ps l b a h h2 q t =
@@ -71,9 +75,8 @@ tabled_more nodes table i f ps l b a h h2 q t =
           (cases_eq j f);
     }
 
-pub tabled_all : (nodes : List Node) (table : List Procedure) (i f : ℕ) (ps : List Proc) → length ps ≤ f → Tabled nodes table i f ps → Holds nodes table ps
-tabled_all nodes table i f ps h t = λ j p e. t.right j p (omega (arith, proc_within ps j p e)) e
-
--- entries past the one that is written stay
-pub same_entries_more : (before table : List Procedure) (f : ℕ) (x : Procedure) → SameEntries f before table → SameEntries (f + 1) before (set table f x)
-same_entries_more before table f x s = λ j h. get_or-set_other table f j x (record { locals = 0; body = 0 }) (λ e. omega (arith, e)) ∙ s j (omega arith)
+-- all entries are right, whatever stands behind them
+pub tabled_all : (nodes : List Node) (table others : List Procedure) (i f : ℕ) (ps : List Proc) → length ps ≤ f → f ≤ length table → Tabled nodes table i f ps → Holds nodes (table ++ others) ps
+tabled_all nodes table others i f ps h l t = λ j p e.
+    let b : j < f = omega (arith, proc_within ps j p e) in
+    subst (λ (y : Procedure). IsProc nodes y p) (sym (get_or_append_left table others (record { locals = 0; body = 0 }) j (omega arith))) (t.right j p b e)

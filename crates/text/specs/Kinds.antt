@@ -1,5 +1,5 @@
 -- The words of the language by kind.
-use Rattle.std.specs.Prelude.{ℕ, Bool, false, cond, List, [], ◌∷◌, Some, None, Option, nat_lt}
+use Rattle.std.specs.Prelude.{ℕ, Bool, false, cond, List, [], ◌∷◌, None, Option, nat_lt, find}
 use Rattle.std.specs.Str.{bytes_eq}
 use Rattle.text.specs.declared.kinds.Kind.{Kind}
 use Rattle.text.specs.declared.kinds.Kind.TheVariants as K
@@ -35,8 +35,7 @@ kinds = K.Num ∷ K.Loc ∷ K.Glob ∷ K.Cell ∷ K.Add ∷ K.Sub ∷ K.Nand ∷
 
 -- the first of some kinds that is written so
 abbrev pub lookup : List ℕ → List Kind → Option Kind
-lookup w [] = None
-lookup w (k ∷ ks) = cond (bytes_eq w (spelled k)) (Some k) (lookup w ks)
+lookup w ks = find (λ k. bytes_eq w (spelled k)) ks
 
 -- a word that begins below 'a' has no kind, which is told at once
 abbrev pub lettered : List ℕ → Bool

@@ -6,39 +6,41 @@ ghost use Rattle.text.specs.Reading.{run, fresh};
 ghost use Rattle.text.specs.Text.{words};
 ghost use Rattle.std.specs.Prelude.{◌≡◌};
 
-use crate::cut::next_word;
+use crate::cut::Words;
 use crate::kinds::{Kind, kind_of};
 use crate::limits::{MOST_SIGNS, WORDS};
 use crate::numbers::number;
 use crate::reader::{Need, Reader, Use};
 use language::nodes::{MOST_NODES, Node};
 
-// A node of a kind before it has its number and those of its parts.
-fn bare_node(k: Kind) -> Node
-    ensures { result ≡ bare k }
-{
-    match k {
-        Kind::Num => Node::Num(0),
-        Kind::Loc => Node::Loc(0),
-        Kind::Glob => Node::Glob(0),
-        Kind::Cell => Node::Cell(0),
-        Kind::Add => Node::Add(0, 0),
-        Kind::Sub => Node::Sub(0, 0),
-        Kind::Nand => Node::Nand(0, 0),
-        Kind::Less => Node::Less(0, 0),
-        Kind::Half => Node::Half(0),
-        Kind::Call => Node::Call(0, 0),
-        Kind::Skip => Node::Skip,
-        Kind::Then => Node::Then(0, 0),
-        Kind::SetLoc => Node::SetLoc(0, 0),
-        Kind::SetGlob => Node::SetGlob(0, 0),
-        Kind::SetCell => Node::SetCell(0, 0),
-        Kind::If => Node::If(0, 0, 0),
-        Kind::While => Node::While(0, 0),
-        Kind::Out => Node::Out(0),
-        Kind::Take => Node::Take(0),
-        Kind::Program => Node::Skip,
-        Kind::Proc => Node::Proc(0, 0, 0),
+impl Kind {
+    // A node of the kind before it has its number and those of its parts.
+    fn bare_node(self) -> Node
+        ensures { result ≡ bare self }
+    {
+        match self {
+            Kind::Num => Node::Num(0),
+            Kind::Loc => Node::Loc(0),
+            Kind::Glob => Node::Glob(0),
+            Kind::Cell => Node::Cell(0),
+            Kind::Add => Node::Add(0, 0),
+            Kind::Sub => Node::Sub(0, 0),
+            Kind::Nand => Node::Nand(0, 0),
+            Kind::Less => Node::Less(0, 0),
+            Kind::Half => Node::Half(0),
+            Kind::Call => Node::Call(0, 0),
+            Kind::Skip => Node::Skip,
+            Kind::Then => Node::Then(0, 0),
+            Kind::SetLoc => Node::SetLoc(0, 0),
+            Kind::SetGlob => Node::SetGlob(0, 0),
+            Kind::SetCell => Node::SetCell(0, 0),
+            Kind::If => Node::If(0, 0, 0),
+            Kind::While => Node::While(0, 0),
+            Kind::Out => Node::Out(0),
+            Kind::Take => Node::Take(0),
+            Kind::Program => Node::Skip,
+            Kind::Proc => Node::Proc(0, 0, 0),
+        }
     }
 }
 
@@ -59,35 +61,36 @@ fn with_number(node: Node, n: u16) -> Node
     }
 }
 
-// Whether a number belongs to a node, and not to the program as a whole.
-fn is_of_node(u: Use) -> bool
-    ensures { result ≡ has_node u }
-{
-    match u {
-        Use::Globals | Use::Cells | Use::Procs => false,
-        _ => true,
+impl Use {
+    // Whether such a number belongs to a node, and not to the program as a whole.
+    fn is_of_node(self) -> bool
+        ensures { result ≡ has_node self }
+    {
+        !matches!(self, Use::Globals | Use::Cells | Use::Procs)
     }
 }
 
-// Writes what a word says that is read at `a`.
-fn note(nodes: &mut [Node; MOST_NODES], a: Reader, w: &[u8])
-    requires { Placed a }
-    ensures { nodes.new ≡ noted a w.now nodes.old }
-{
-    match a.need {
-        Need::Start => {}
-        Need::Number(u) => {
-            if is_of_node(u) {
-                if let Some(n) = number(w) {
-                    let at = a.signs - 1;
-                    let node = nodes[at];
-                    nodes[at] = with_number(node, (n as usize % WORDS) as u16);
+impl Reader {
+    // Writes what the next word says.
+    fn note(self, w: &[u8], nodes: &mut [Node; MOST_NODES])
+        requires { Placed self }
+        ensures { nodes.new ≡ noted self w.now nodes.old }
+    {
+        match self.need {
+            Need::Start => {}
+            Need::Number(u) => {
+                if u.is_of_node() {
+                    if let Some(n) = number(w) {
+                        let at = self.signs - 1;
+                        let node = nodes[at];
+                        nodes[at] = with_number(node, (n % WORDS) as u16);
+                    }
                 }
             }
-        }
-        Need::Owed => {
-            if let Some(k) = kind_of(w) {
-                nodes[a.signs] = bare_node(k);
+            Need::Owed => {
+                if let Some(k) = kind_of(w) {
+                    nodes[self.signs] = k.bare_node();
+                }
             }
         }
     }
@@ -96,17 +99,15 @@ fn note(nodes: &mut [Node; MOST_NODES], a: Reader, w: &[u8])
 // Reads a text, and writes its nodes as long as they are within the limits.
 pub(crate) fn read(text: &[u8], nodes: &mut [Node; MOST_NODES]) -> Option<Reader>
     ensures reads { result ≡ run (words text.now) fresh }
-    ensures fills { Filled (words text.now) nodes.old nodes.new result }
+    ensures fills { Filled (words text.now) nodes.new result }
 {
     let mut reader = Reader::new();
-    let mut rest = text;
-    while let Some((word, after)) = next_word(rest) {
+    for word in Words::of(text) {
         let next = reader.step(word)?;
         if next.fits && next.signs <= MOST_SIGNS {
-            note(nodes, reader, word);
+            reader.note(word, nodes);
         }
         reader = next;
-        rest = after;
     }
     Some(reader)
 }

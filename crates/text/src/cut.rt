@@ -1,51 +1,50 @@
 // A text is cut into words at its blanks, one word at a time.
-ghost use Rattle.std.specs.Prelude.{◌≡◌, ◌<◌, ◌≤◌, false, [], length, take, drop, MatchOption, slice_index};
+ghost use Rattle.std.specs.Iterator.{YieldsFirstRef, item_count};
+ghost use Rattle.std.specs.Prelude.{◌≡◌, [], MatchOption};
 ghost use Rattle.text.specs.Cut.{Cut};
-ghost use Rattle.text.specs.Text.{words, blank, split};
+ghost use Rattle.text.specs.Text.{words, blank};
 
 // Space, line feed, carriage return, tab.
 fn is_blank(c: u8) -> bool
     ensures { result ≡ blank c }
 {
-    c == 32 || c == 10 || c == 13 || c == 9
-}
-
-// How many blanks stand in front.
-fn blanks(s: &[u8]) -> usize
-    ensures within { result ≤ length s.now }
-    ensures rest { words s.now ≡ words (drop result s.now) }
-    ensures stops { result < length s.now → blank (slice_index s.now result) ≡ false }
-{
-    for (i, c) in s.iter().enumerate() {
-        if !is_blank(*c) {
-            return i;
-        }
-    }
-    s.len()
-}
-
-// How many bytes stand before the first blank.
-fn word_len(s: &[u8]) -> usize
-    ensures within { result ≤ length s.now }
-    ensures word { (split s.now).0 ≡ take result s.now }
-    ensures rest { (split s.now).1 ≡ words (drop result s.now) }
-    ensures some { 0 < length s.now → blank (slice_index s.now 0) ≡ false → 0 < result }
-{
-    for (i, c) in s.iter().enumerate() {
-        if is_blank(*c) {
-            return i;
-        }
-    }
-    s.len()
+    matches!(c, b' ' | b'\n' | b'\r' | b'\t')
 }
 
 // The first word, and what stands after it; none if there are only blanks.
 pub fn next_word(s: &[u8]) -> Option<(&[u8], &[u8])>
     ensures { MatchOption result (words s.now ≡ []) (λ x. Cut s.now x.0.now x.1.now) }
 {
-    let start = &s[blanks(s)..];
-    if start.is_empty() {
-        return None;
+    let start = s.iter().position(|c| !is_blank(*c))?;
+    let word = &s[start..];
+    let end = word.iter().position(|c| is_blank(*c)).unwrap_or(word.len());
+    Some(word.split_at(end))
+}
+
+// The words of a text, one after the other.
+#[derive(Drop)]
+pub(crate) struct Words<'a> {
+    rest: &'a [u8],
+}
+
+impl<'a> Words<'a> {
+    pub(crate) fn of(text: &'a [u8]) -> Words<'a>
+        ensures { result.rest.now ≡ text.now }
+    {
+        Words { rest: text }
     }
-    Some(start.split_at(word_len(start)))
+}
+
+impl<'a> Iterator for Words<'a> {
+    type Item = &'a [u8];
+
+    ghost next_gives = { YieldsFirstRef (λ s. words s.rest.now) };
+
+    ghost remaining = { item_count (λ s. words s.rest.now) };
+
+    fn next(&mut self) -> Option<&'a [u8]> {
+        let (word, after) = next_word(self.rest)?;
+        self.rest = after;
+        Some(word)
+    }
 }

@@ -1,9 +1,10 @@
 // The words of the language.
 ghost use Rattle.text.specs.Kinds.{kind, spelled};
 ghost use Rattle.std.specs.Prelude.{◌≡◌};
+ghost use Rattle.std.specs.Str.{bytes_eq};
 
 // A word that is no number.
-#[derive(Clone, Copy)]
+#[derive(Clone, Copy, PartialEq, Eq)]
 pub(crate) enum Kind {
     Num,
     Loc,
@@ -52,32 +53,41 @@ const KINDS: [Kind; 21] = [
     Kind::Proc,
 ];
 
-// How a word of a kind is written.
-fn spelling(k: Kind) -> &'static [u8]
-    ensures { result.now ≡ spelled k }
-{
-    match k {
-        Kind::Num => b"num",
-        Kind::Loc => b"loc",
-        Kind::Glob => b"glob",
-        Kind::Cell => b"cell",
-        Kind::Add => b"add",
-        Kind::Sub => b"sub",
-        Kind::Nand => b"nand",
-        Kind::Less => b"less",
-        Kind::Half => b"half",
-        Kind::Call => b"call",
-        Kind::Skip => b"skip",
-        Kind::Then => b"then",
-        Kind::SetLoc => b"setloc",
-        Kind::SetGlob => b"setglob",
-        Kind::SetCell => b"setcell",
-        Kind::If => b"if",
-        Kind::While => b"while",
-        Kind::Out => b"out",
-        Kind::Take => b"take",
-        Kind::Program => b"program",
-        Kind::Proc => b"proc",
+impl Kind {
+    // How a word of the kind is written.
+    fn spelling(self) -> &'static [u8]
+        ensures { result.now ≡ spelled self }
+    {
+        match self {
+            Kind::Num => b"num",
+            Kind::Loc => b"loc",
+            Kind::Glob => b"glob",
+            Kind::Cell => b"cell",
+            Kind::Add => b"add",
+            Kind::Sub => b"sub",
+            Kind::Nand => b"nand",
+            Kind::Less => b"less",
+            Kind::Half => b"half",
+            Kind::Call => b"call",
+            Kind::Skip => b"skip",
+            Kind::Then => b"then",
+            Kind::SetLoc => b"setloc",
+            Kind::SetGlob => b"setglob",
+            Kind::SetCell => b"setcell",
+            Kind::If => b"if",
+            Kind::While => b"while",
+            Kind::Out => b"out",
+            Kind::Take => b"take",
+            Kind::Program => b"program",
+            Kind::Proc => b"proc",
+        }
+    }
+
+    // Whether a word is one of the kind.
+    fn is_spelled(self, w: &[u8]) -> bool
+        ensures { result ≡ bytes_eq w.now (spelled self) }
+    {
+        w == self.spelling()
     }
 }
 
@@ -85,10 +95,5 @@ fn spelling(k: Kind) -> &'static [u8]
 pub(crate) fn kind_of(w: &[u8]) -> Option<Kind>
     ensures { result ≡ kind w.now }
 {
-    for k in KINDS {
-        if w == spelling(k) {
-            return Some(k);
-        }
-    }
-    None
+    KINDS.iter().copied().find(|k| k.is_spelled(w))
 }

@@ -6,17 +6,18 @@ ghost use Rattle.text.specs.Links.{Ends, linked_node, node_end, Linked};
 
 use language::nodes::{MOST_NODES, Node};
 
-// Where each node ends; one more than there are nodes, so that a part past the last is found too, at LAST.
-const ENDS: usize = 2001;
+// Where each node ends; one more than there are nodes, so that a part past the last is found too, at LAST. An array as
+// large as the limit, since the layers allocate nothing.
+const ENDS: usize = MOST_NODES + 1;
 
-const LAST: u16 = 2000;
+const LAST: u16 = MOST_NODES as u16;
 
 // A node at i with the numbers of its parts, and the number after its last part, where `ends` has those of later nodes.
-fn linked(node: Node, i: u16, ends: &[u16; ENDS]) -> (Node, u16)
+fn linked(node: Node, i: usize, ends: &[u16; ENDS]) -> (Node, u16)
     requires { (i < most_nodes) × (Ends ends.now) }
     ensures { (result.0 ≡ linked_node node i ends.now) × (result.1 ≡ node_end node i ends.now) }
 {
-    let first = i + 1;
+    let first = (i + 1) as u16;
     let second = ends[first as usize];
     let third = ends[second as usize];
     match node {
@@ -39,15 +40,16 @@ fn linked(node: Node, i: u16, ends: &[u16; ENDS]) -> (Node, u16)
     }
 }
 
-// The first n nodes get the numbers of their parts; the others stay.
-pub(crate) fn link(nodes: &mut [Node; MOST_NODES], n: u16)
+// The first n nodes get the numbers of their parts.
+pub(crate) fn link(nodes: &mut [Node; MOST_NODES], n: usize)
     requires { n ≤ most_nodes }
     ensures { (ends : List ℕ) × Linked nodes.old nodes.new ends n }
 {
     let mut ends = [LAST; ENDS];
+    // An index, and no iterator over both arrays: later nodes' ends are read while this node's is written.
     for i in (0..n).rev() {
-        let (node, end) = linked(nodes[i as usize], i, &ends);
-        nodes[i as usize] = node;
-        ends[i as usize] = end;
+        let (node, end) = linked(nodes[i], i, &ends);
+        nodes[i] = node;
+        ends[i] = end;
     }
 }

@@ -62,49 +62,54 @@ pub(crate) struct Reader {
     pub count: usize,
     // Of the procedure that is read: its locals, the argument among them.
     pub locals: usize,
-    // Read so far, and whether all numbers so far are within the limits.
+    // Read so far, and whether all numbers so far are within the limits: that is told at the end, since a text that is no
+    // program is refused as such first.
     pub signs: usize,
     pub fits: bool,
 }
 
-// What a word of a kind begins and asks for.
-fn shape_of(k: Kind) -> Shape
-    ensures { result ≡ shape k }
-{
-    match k {
-        Kind::Num => shaped(Role::Expression, Need::Number(Use::Value), 0, 0),
-        Kind::Loc => shaped(Role::Expression, Need::Number(Use::Local), 0, 0),
-        Kind::Glob => shaped(Role::Expression, Need::Number(Use::Global), 0, 0),
-        Kind::Cell | Kind::Half => shaped(Role::Expression, Need::Owed, 1, 0),
-        Kind::Add | Kind::Sub | Kind::Nand | Kind::Less => shaped(
-            Role::Expression,
-            Need::Owed,
-            2,
-            0,
-        ),
-        Kind::Call => shaped(Role::Expression, Need::Number(Use::Callee), 1, 0),
-        Kind::Skip => shaped(Role::Statement, Need::Owed, 0, 0),
-        Kind::Then => shaped(Role::Statement, Need::Owed, 0, 2),
-        Kind::SetLoc => shaped(Role::Statement, Need::Number(Use::Local), 1, 0),
-        Kind::SetGlob => shaped(Role::Statement, Need::Number(Use::Global), 1, 0),
-        Kind::SetCell => shaped(Role::Statement, Need::Owed, 2, 0),
-        Kind::If => shaped(Role::Statement, Need::Owed, 1, 2),
-        Kind::While => shaped(Role::Statement, Need::Owed, 1, 1),
-        Kind::Out => shaped(Role::Statement, Need::Owed, 1, 0),
-        Kind::Take => shaped(Role::Statement, Need::Number(Use::Local), 0, 0),
-        Kind::Program => shaped(Role::Program, Need::Number(Use::Globals), 0, 0),
-        Kind::Proc => shaped(Role::Procedure, Need::Number(Use::Locals), 0, 1),
+impl Shape {
+    fn new(role: Role, next: Need, exprs: usize, stmts: usize) -> Shape
+        ensures { result ≡ begins role next exprs stmts }
+    {
+        Shape {
+            role,
+            next,
+            exprs,
+            stmts,
+        }
     }
 }
 
-fn shaped(role: Role, next: Need, exprs: usize, stmts: usize) -> Shape
-    ensures { result ≡ begins role next exprs stmts }
-{
-    Shape {
-        role,
-        next,
-        exprs,
-        stmts,
+impl Kind {
+    // What a word of the kind begins and asks for.
+    fn shape(self) -> Shape
+        ensures { result ≡ shape self }
+    {
+        match self {
+            Kind::Num => Shape::new(Role::Expression, Need::Number(Use::Value), 0, 0),
+            Kind::Loc => Shape::new(Role::Expression, Need::Number(Use::Local), 0, 0),
+            Kind::Glob => Shape::new(Role::Expression, Need::Number(Use::Global), 0, 0),
+            Kind::Cell | Kind::Half => Shape::new(Role::Expression, Need::Owed, 1, 0),
+            Kind::Add | Kind::Sub | Kind::Nand | Kind::Less => Shape::new(
+                Role::Expression,
+                Need::Owed,
+                2,
+                0,
+            ),
+            Kind::Call => Shape::new(Role::Expression, Need::Number(Use::Callee), 1, 0),
+            Kind::Skip => Shape::new(Role::Statement, Need::Owed, 0, 0),
+            Kind::Then => Shape::new(Role::Statement, Need::Owed, 0, 2),
+            Kind::SetLoc => Shape::new(Role::Statement, Need::Number(Use::Local), 1, 0),
+            Kind::SetGlob => Shape::new(Role::Statement, Need::Number(Use::Global), 1, 0),
+            Kind::SetCell => Shape::new(Role::Statement, Need::Owed, 2, 0),
+            Kind::If => Shape::new(Role::Statement, Need::Owed, 1, 2),
+            Kind::While => Shape::new(Role::Statement, Need::Owed, 1, 1),
+            Kind::Out => Shape::new(Role::Statement, Need::Owed, 1, 0),
+            Kind::Take => Shape::new(Role::Statement, Need::Number(Use::Local), 0, 0),
+            Kind::Program => Shape::new(Role::Program, Need::Number(Use::Globals), 0, 0),
+            Kind::Proc => Shape::new(Role::Procedure, Need::Number(Use::Locals), 0, 1),
+        }
     }
 }
 
@@ -132,7 +137,7 @@ impl Reader {
         requires { Roomy self }
         ensures { result ≡ enter (shape k) self }
     {
-        let s = shape_of(k);
+        let s = k.shape();
         let next = Reader {
             need: s.next,
             signs: self.signs + 1,
@@ -222,7 +227,7 @@ impl Reader {
             },
             Need::Number(u) => {
                 let n = number(w)?;
-                Some(self.take(u, n as usize))
+                Some(self.take(u, n))
             }
             Need::Owed => self.enter(kind_of(w)?),
         }
@@ -232,9 +237,6 @@ impl Reader {
     pub(crate) fn is_done(&self) -> bool
         ensures { result ≡ done self.now.need self.now.exprs self.now.stmts self.now.procs }
     {
-        match self.need {
-            Need::Owed => self.exprs == 0 && self.stmts == 0 && self.procs == 0,
-            _ => false,
-        }
+        matches!(self.need, Need::Owed) && self.exprs == 0 && self.stmts == 0 && self.procs == 0
     }
 }

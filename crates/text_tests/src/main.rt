@@ -5,20 +5,16 @@
 
 ghost use Rattle.std.specs.Prelude.{◌<◌};
 
-use language::nodes::{MOST_NODES, MOST_PROCEDURES, Node, Procedure};
+use language::nodes::Sizes;
 use std::alloc::{AllocError, Global};
 use std::io;
-use text::judge::{Verdict, judge};
-use text::load::{Refused, Sizes, load};
+use text::judge::judge;
+use text::load::load;
 
 fn digit(b: u8) -> u32
     ensures { result < 10 }
 {
-    if b >= b'0' && b <= b'9' {
-        (b - b'0') as u32
-    } else {
-        0
-    }
+    char::from(b).to_digit(10).unwrap_or(0)
 }
 
 // A piece of a line, with the bytes that its codes stand for.
@@ -42,9 +38,8 @@ fn expand(heap: Global, line: &str) -> Result<Vec<u8>, AllocError> {
     for piece in line.split('{') {
         if let Some((repeated, tail)) = piece.split_once('}') {
             if let Some((count, words)) = repeated.split_once(':') {
-                for _ in 0..count.parse::<u32>().unwrap_or(0) {
-                    text.extend_from_slice(words.as_bytes())?;
-                }
+                let times = count.parse::<u32>().unwrap_or(0) as usize;
+                text.extend_from_slice(words.repeat(heap, times)?.as_bytes())?;
             }
             push_piece(&mut text, tail)?;
         } else {
@@ -54,42 +49,27 @@ fn expand(heap: Global, line: &str) -> Result<Vec<u8>, AllocError> {
     Ok(text)
 }
 
-fn sizes(text: &[u8]) -> Result<Sizes, Refused> {
-    let mut nodes = [Node::Skip; MOST_NODES];
-    let mut table = [Procedure { locals: 0, body: 0 }; MOST_PROCEDURES];
-    load(text, &mut nodes, &mut table)
-}
-
 // What is said of a text, where its verdict and what comes of loading it agree.
 fn show(rt: &HostRuntime, line: &str, text: &[u8]) -> io::Result<()> {
-    match (judge(text), sizes(text)) {
-        (
-            Verdict::Program,
-            Ok(
-                Sizes {
-                    globals,
-                    cells,
-                    procs,
-                    signs,
-                },
-            ),
-        ) => { println!(rt; "program {globals} {cells} {procs} {signs} <- {line}") }
-        (Verdict::NoProgram, Err(Refused::NoProgram)) => println!(rt; "no program <- {line}"),
-        (Verdict::Limits, Err(Refused::Limits)) => println!(rt; "limits <- {line}"),
+    match (judge(text), load(text)) {
+        (Ok(()), Ok(parsed)) => {
+            let Sizes {
+                globals,
+                cells,
+                procs,
+                signs,
+            } = parsed.sizes;
+            println!(rt; "program {globals} {cells} {procs} {signs} <- {line}")
+        }
+        (Err(judged), Err(refused)) if judged == refused => println!(rt; "{refused} <- {line}"),
         _ => println!(rt; "DIFFERS <- {line}"),
     }
 }
 
 // How many beginnings of a text are programs within the limits, of how many.
 fn show_cuts(rt: &HostRuntime, line: &str, text: &[u8]) -> io::Result<()> {
-    let mut programs = 0u64;
-    let mut all = 0u64;
-    for i in 0..text.len() {
-        all = all.wrapping_add(1);
-        if let Verdict::Program = judge(&text[0..i]) {
-            programs = programs.wrapping_add(1);
-        }
-    }
+    let all = text.len();
+    let programs = (0..all).filter(|i| judge(&text[..*i]).is_ok()).count();
     println!(rt; "{programs} of {all} cuts <- {line}")
 }
 

@@ -9,9 +9,10 @@
 // taken, all of them if there is none. 'gives' has the words put out and the ending: done, index, full; running, of a
 // program that never ends and puts out nothing more; '...', of one that goes on putting out; or 'no program' or 'limits'
 // alone. Lines that begin with # are comments.
-use crate::outcome::{Ending, Outcome};
-use anyhow::anyhow;
+use crate::outcome::{Fate, Outcome};
+use anyhow::Context;
 use std::alloc::{AllocError, Global};
+use words::ending::Ending;
 
 #[derive(Drop)]
 pub(crate) struct Case {
@@ -19,7 +20,7 @@ pub(crate) struct Case {
     pub text: Vec<u8>,
     pub tape: Vec<u16>,
     pub expected: Outcome,
-    // The program goes on putting out words after those that are expected.
+    // The program goes on putting out words after those that are expected; these are compared either way.
     pub more: bool,
 }
 
@@ -29,7 +30,7 @@ impl Case {
         let expected = Outcome {
             words: Vec::new(heap),
             taken: 0,
-            ending: Ending::Running,
+            ending: Fate::Running,
         };
         Ok(Case {
             name: String::from_str(heap, name)?,
@@ -73,13 +74,13 @@ impl Case {
         let line = repeat(heap, line)?;
         for word in line.as_str().split_whitespace() {
             match word {
-                "done" => self.expected.ending = Ending::Done,
-                "index" => self.expected.ending = Ending::Index,
-                "full" => self.expected.ending = Ending::Full,
-                "running" => self.expected.ending = Ending::Running,
+                "done" => self.expected.ending = Fate::Ended(Ending::Done),
+                "index" => self.expected.ending = Fate::Ended(Ending::Index),
+                "full" => self.expected.ending = Fate::Ended(Ending::Full),
+                "running" => self.expected.ending = Fate::Running,
                 "..." => self.more = true,
-                "program" => self.expected.ending = Ending::NoProgram,
-                "limits" => self.expected.ending = Ending::Limits,
+                "program" => self.expected.ending = Fate::NoProgram,
+                "limits" => self.expected.ending = Fate::Limits,
                 "no" => {}
                 _ => self.expected.words.push(number(word)?)?,
             }
@@ -90,21 +91,18 @@ impl Case {
 
 // A word of the tape or of those put out.
 fn number(word: &str) -> anyhow::Result<u16> {
-    match decimal::word(word.as_bytes()) {
-        Some(n) => Ok(n),
-        None => Err(anyhow!("a word of a table is a number below 65536")),
-    }
+    decimal::word(word.as_bytes()).context("a word of a table is a number below 65536")
 }
 
-// The line, with N times WORDS for each {N:WORDS}.
+// The line, with N times WORDS for each {N:WORDS}. text_tests reads the same braces into bytes, with codes outside them:
+// shared, these few lines would want a crate and a parameter for what is done with a piece.
 fn repeat(heap: Global, line: &str) -> Result<String, AllocError> {
     let mut whole = String::new(heap);
     for piece in line.split('{') {
         if let Some((repeated, tail)) = piece.split_once('}') {
             if let Some((count, words)) = repeated.split_once(':') {
-                for _ in 0..count.parse::<u32>().unwrap_or(0) {
-                    whole.push_str(words)?;
-                }
+                let times = count.parse::<u32>().unwrap_or(0) as usize;
+                whole.push_str(words.repeat(heap, times)?.as_str())?;
             }
             whole.push_str(tail)?;
         } else {

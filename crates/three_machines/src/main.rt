@@ -8,10 +8,11 @@ mod machines;
 mod outcome;
 
 use agreement::all_meet;
-use anyhow::anyhow;
+use anyhow::bail;
 use cases::Case;
-use machines::{Bounds, by_definition, on_board, on_instructions};
-use outcome::{Ending, Outcome, Runs};
+use console::exit::finish;
+use machines::{Bounds, Task, by_definition, on_board, on_instructions};
+use outcome::{Fate, Outcome, Runs};
 use std::process::ExitCode;
 use std::{env, fs, io};
 
@@ -35,7 +36,7 @@ const A_BEGINNING: Bounds = Bounds {
 };
 
 // How many texts were to run, how many to be refused, and how many came out otherwise.
-#[derive(Clone, Copy)]
+#[derive(Clone, Copy, Default)]
 struct Tally {
     ran: u64,
     refused: u64,
@@ -58,17 +59,19 @@ fn print_outcome(rt: &HostRuntime, who: &str, outcome: &Outcome) -> anyhow::Resu
 // Runs a case on the three machines. Whether all came out as expected; if not, how is printed.
 fn try_case(rt: &HostRuntime, case: &Case) -> anyhow::Result<bool> {
     let heap = rt.alloc();
-    let text = case.text.as_slice();
-    let tape = case.tape.as_slice();
-    let bounds = if case.expected.ending == Ending::Running {
-        A_BEGINNING
-    } else {
-        TO_THE_END
+    let bounds = match case.expected.ending {
+        Fate::Running => A_BEGINNING,
+        _ => TO_THE_END,
+    };
+    let task = Task {
+        text: case.text.as_slice(),
+        tape: case.tape.as_slice(),
+        bounds,
     };
     let runs = Runs {
-        definition: by_definition(heap, text, tape, bounds)?,
-        instructions: on_instructions(heap, text, tape, bounds)?,
-        board: on_board(heap, text, tape, bounds)?,
+        definition: by_definition(heap, task)?,
+        instructions: on_instructions(heap, task)?,
+        board: on_board(heap, task)?,
     };
     if all_meet(&case.expected, &runs, case.more) {
         return Ok(true);
@@ -88,25 +91,17 @@ fn count(rt: &HostRuntime, case: &Case, before: Tally) -> anyhow::Result<Tally> 
         tally.differ = tally.differ.saturating_add(1);
     }
     match case.expected.ending {
-        Ending::NoProgram | Ending::Limits => tally.refused = tally.refused.saturating_add(1),
+        Fate::NoProgram | Fate::Limits => tally.refused = tally.refused.saturating_add(1),
         _ => tally.ran = tally.ran.saturating_add(1),
     }
     Ok(tally)
-}
-
-// A refusal of a table's file or line.
-fn refused(rt: &HostRuntime, path: &str, why: &str) -> anyhow::Error {
-    match format!(in rt.alloc(); "{path}: {why}") {
-        Ok(text) => anyhow!("{text}"),
-        Err(e) => e.into(),
-    }
 }
 
 // Runs the cases of a table: each when its expected outcome is read.
 fn run_table(rt: &HostRuntime, path: &str, before: Tally) -> anyhow::Result<Tally> {
     let heap = rt.alloc();
     let Ok(table) = fs::read_to_string(rt, path) else {
-        return Err(refused(rt, path, "cannot be read"));
+        bail!("{path}: cannot be read");
     };
     let mut tally = before;
     let mut case = Case::new(heap, "")?;
@@ -121,7 +116,7 @@ fn run_table(rt: &HostRuntime, path: &str, before: Tally) -> anyhow::Result<Tall
             case.set_outcome(heap, outcome)?;
             tally = count(rt, &case, tally)?;
         } else if !line.is_empty() && !line.starts_with("#") {
-            return Err(refused(rt, path, line));
+            bail!("{path}: {line}");
         }
     }
     Ok(tally)
@@ -129,11 +124,7 @@ fn run_table(rt: &HostRuntime, path: &str, before: Tally) -> anyhow::Result<Tall
 
 // Runs the tables and sums up.
 fn run_tables(rt: &HostRuntime) -> anyhow::Result<()> {
-    let mut tally = Tally {
-        ran: 0,
-        refused: 0,
-        differ: 0,
-    };
+    let mut tally = Tally::default();
     for path in env::args(rt)?.skip(1) {
         if path.as_str() == "--help" {
             rt.println(HELP)?;
@@ -148,10 +139,10 @@ fn run_tables(rt: &HostRuntime) -> anyhow::Result<()> {
     } = tally;
     if differ > 0 {
         println!(rt; "{differ} texts differ")?;
-        return Err(anyhow!("not all texts came out as expected"));
+        bail!("not all texts came out as expected");
     }
     if ran == 0 && refused == 0 {
-        return Err(anyhow!("no texts (--help says how)"));
+        bail!("no texts (--help says how)");
     }
     println!(rt;
         "{ran} texts: the expected words and endings on three machines; {refused} texts refused by all"
@@ -160,11 +151,5 @@ fn run_tables(rt: &HostRuntime) -> anyhow::Result<()> {
 }
 
 fn main(rt: HostRuntime) -> io::Result<ExitCode> {
-    match run_tables(&rt) {
-        Ok(()) => Ok(ExitCode::SUCCESS),
-        Err(e) => {
-            eprintln!(rt; "three_machines: {e}")?;
-            Ok(ExitCode::FAILURE)
-        }
-    }
+    finish(&rt, "three_machines", run_tables(&rt))
 }

@@ -1,5 +1,7 @@
-// The five operations on 16-bit words, for all layers that work on words.
+// The five operations on 16-bit words, for all layers that work on words, and how a run ends.
 #![tactic(auto)]
+
+pub mod ending;
 
 ghost use Rattle.std.specs.Prelude.{◌≡◌};
 ghost use Rattle.words.specs.Words.{add16, sub16, nand16, less16, half16};
@@ -22,7 +24,7 @@ pub fn sub(a: u16, b: u16) -> u16
 pub fn nand(a: u16, b: u16) -> u16
     ensures { result ≡ nand16 a b }
 {
-    65535 - (a & b)
+    !(a & b)
 }
 
 // 1 if the first is below the second, without sign, else 0.

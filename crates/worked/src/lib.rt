@@ -4,8 +4,6 @@
 ghost use Rattle.worked.specs.Worked.{WorkedRuns};
 
 // Asks for the table of worked runs.
-pub fn worked_runs_hold() -> u8
+pub fn worked_runs_hold()
     ensures { WorkedRuns }
-{
-    0
-}
+{}

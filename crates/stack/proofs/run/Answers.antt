@@ -11,10 +11,10 @@ use Rattle.stack.proofs.run.Goals as goal
 pub returns-in-Some : goal.returns-in-Some
 returns-in-Some c =
     let tape = c.args.tape.now in
-    let made = c.in-Image.ensures.leaves in
-    let circuit = drawn c.in-Sheet.flops c.in-Sheet.gates c.draw.new.sheet in
+    let made = c.in_ok-build.ensures.leaves in
+    let circuit = drawn c.in_ok-size.size.flops c.in_ok-size.size.gates c.draw.new.sheet in
     let words : IsTape tape = words_are tape (λ i. (c.type_inv.tape i).fits) in
-    let right = built_right c.args.text.now c.build.new.image tape circuit c.args.cycles made c.in-Sheet.ensures.is_machine words in
+    let right = built_right c.args.text.now c.build.new.image tape circuit c.args.cycles made c.in_ok-size.ensures.is_machine words in
     let shown = c.in-Some.ensures in (
       record { image_room = search rules; sheet_long = search rules; state_room = search rules; work_room = search rules },
       record {
@@ -29,10 +29,10 @@ returns-in-Some c =
 pub returns-in-None : goal.returns-in-None
 returns-in-None c =
     let tape = c.args.tape.now in
-    let made = c.in-Image.ensures.leaves in
-    let circuit = drawn c.in-Sheet.flops c.in-Sheet.gates c.draw.new.sheet in
+    let made = c.in_ok-build.ensures.leaves in
+    let circuit = drawn c.in_ok-size.size.flops c.in_ok-size.size.gates c.draw.new.sheet in
     let words : IsTape tape = words_are tape (λ i. (c.type_inv.tape i).fits) in
-    let right = built_right c.args.text.now c.build.new.image tape circuit c.args.cycles made c.in-Sheet.ensures.is_machine words in
+    let right = built_right c.args.text.now c.build.new.image tape circuit c.args.cycles made c.in_ok-size.ensures.is_machine words in
     let seen = board_run circuit c.build.new.image tape c.args.cycles in (
       record { image_room = search rules; sheet_long = search rules; state_room = search rules; work_room = search rules },
       (made.program, made.reads, made.within, (seen, right, c.in-None.ensures)),

@@ -1,27 +1,25 @@
-use Rattle.std.proofs.Common.{◌+◌, ◌*◌, ◌<◌, ◌≤◌, length, ap, ◌∙◌, arith}
-use Rattle.board.specs.Slices.{bytes}
-use Rattle.board.proofs.Settling.{pass_more, pass_all}
+use Rattle.std.proofs.Common.{◌/◌, ◌<◌, length, arith}
+use Rattle.board.proofs.Wiring.{gate_in, gate_below}
+use Rattle.board.proofs.Settling.{pass_more}
 use Rattle.board.proofs.signals.settle_gates.Goals as goal
 
-pub eight-preserved : goal.eight-preserved
-eight-preserved c =
-    let i = c.turns.i + c.eight.j in
-    let there : 2 * i + 1 < length c.args.wires.now = omega arith in
-    let room : c.args.base + i < length c.eight.work = omega arith in
-    pass_more c.args.wires.now c.eight.work c.settle_gate.new.work c.args.base i (c.turns.i + (c.eight.j + 1)) _ c.requires.sound there room c.eight.invariant c.settle_gate.ensures (omega arith)
+pub bounds-work-one : goal.bounds-work-one
+bounds-work-one c =
+    let wires = c.args.wires.now in
+    let l : c.loop-i.i < length wires / 2 = omega (arith, c.as_chunks.ensures.front_len) in
+    let gate = gate_in wires c.as_chunks.result.0.now c.loop-i.i c.as_chunks.ensures.front l in
+    omega (arith, (gate_below wires _ c.args.base c.loop-i.i c.requires.sound gate).0)
 
-pub others-preserved : goal.others-preserved
-others-preserved c =
-    let i = c.others.i in
-    let there : 2 * i + 1 < length c.args.wires.now = omega arith in
-    let room : c.args.base + i < length c.others.work = omega arith in (
-      pass_more c.args.wires.now c.others.work c.settle_gate-in-others.new.work c.args.base i (i + 1) _ c.requires.sound there room c.others.invariant.0 c.settle_gate-in-others.ensures (omega arith),
-      omega arith,
-    )
+pub bounds-work-other : goal.bounds-work-other
+bounds-work-other c =
+    let wires = c.args.wires.now in
+    let l : c.loop-i.i < length wires / 2 = omega (arith, c.as_chunks.ensures.front_len) in
+    let gate = gate_in wires c.as_chunks.result.0.now c.loop-i.i c.as_chunks.ensures.front l in
+    omega (arith, (gate_below wires _ c.args.base c.loop-i.i c.requires.sound gate).1)
 
-pub returns : goal.returns
-returns c =
-    let i = c.others.i in
-    let wires : length c.args.wires.now ≤ 2 * i = omega arith in
-    let work : length c.others.work ≤ c.args.base + i = omega arith in
-    pass_all c.args.wires.now c.others.work c.args.base i _ wires work c.others.invariant.0 ∙ ap bytes c.turns.invariant.0.same
+pub loop-i-preserved : goal.loop-i-preserved
+loop-i-preserved c =
+    let wires = c.args.wires.now in
+    let l : c.loop-i.i < length wires / 2 = omega (arith, c.as_chunks.ensures.front_len) in
+    let gate = gate_in wires c.as_chunks.result.0.now c.loop-i.i c.as_chunks.ensures.front l in
+    pass_more wires _ c.loop-i.work c.args.base c.loop-i.i _ c.requires.sound gate (omega (arith, gate.there)) c.loop-i.invariant

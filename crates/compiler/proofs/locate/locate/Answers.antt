@@ -1,28 +1,19 @@
-use Rattle.std.proofs.Common.{◌≡◌, ◌≤◌, length, sym, ap, ◌∙◌, arith}
-use Rattle.codegen.specs.Codegen.{first_proc}
-use Rattle.codegen.proofs.Limits.{within_limits}
-use Rattle.text.specs.Signs.{put_from}
+use Rattle.std.proofs.Common.{ℕ, List, map, ap, ◌∙◌}
 use Rattle.signs.specs.Signs.{locate_signs}
-use Rattle.signs.proofs.Located.{count_procs, procs_places}
-use Rattle.signs.proofs.Worded.{program_worded}
 use Rattle.signs.proofs.Righted.{right_signs}
-use Rattle.compiler.proofs.Lists.{put_first}
+use Rattle.compiler.specs.Pairs.{pairs}
+use Rattle.compiler.proofs.Lists.{words_listed, places_listed, pairs_of}
 use Rattle.compiler.proofs.locate.locate.Goals as goal
 
 pub returns : goal.returns
 returns c =
-    let l = c.in_ok-sizes.ensures in
-    let g = l.program in
-    let n = c.in_ok-sizes.sizes.signs in
-    let count : n ≡ length (locate_signs g) = l.sized.signs ∙ sym (count_procs g.procs 4 first_proc) in
-    let few : n ≤ 2000 = omega (arith, l.sized.signs, (within_limits g l.within).few_signs) in
+    let l = c.in_ok-parsed.ensures in let g = l.program in
+    let e = words_listed c.args.text.now g c.as_slice.result.now l.reads l.held.within (c.as_slice.ensures.value ∙ c.sign_words-words.ensures) in
+    let e' = places_listed g c.as_slice-2.result.now l.held.within (c.as_slice-2.ensures.value ∙ c.place_signs-places.ensures g l.held) in
     record {
       program = g;
       reads = l.reads;
-      within = l.within;
-      count = count;
-      words_are = c.sign_words.ensures ∙ ap (put_from c.args.before.now 0) (program_worded c.args.text.now g l.reads) ∙ put_first (λ x. x.word) (locate_signs g) c.args.before.now n count (omega arith);
-      places_are = c.place_signs.ensures g (record { within = l.within; count_is = l.sized.procs; holds = l.holds }) ∙ ap (put_from c.args.places.now 0) (sym (procs_places g.procs 4 first_proc))
-          ∙ put_first (λ x. x.place) (locate_signs g) c.args.places.now n count (omega arith);
-      right = right_signs c.args.text.now g l.reads l.within;
+      within = l.held.within;
+      signs_are = c.side_by_side.ensures ∙ ap (λ (ws : List ℕ). pairs ws c.as_slice-2.result.now) e ∙ ap (pairs (map (λ x. x.word) (locate_signs g))) e' ∙ pairs_of (locate_signs g);
+      right = right_signs c.args.text.now g l.reads l.held.within;
     }

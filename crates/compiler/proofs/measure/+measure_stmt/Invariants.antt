@@ -1,6 +1,6 @@
-use Rattle.std.proofs.Common.{◌-◌}
+use Rattle.std.proofs.Common.{◌-◌, length}
 use Rattle.compiler.proofs.measure.+measure_stmt.Given as goal
 
 -- parts stand at later nodes
 abbrev pub decreases-measure_stmt : goal.decreases-measure_stmt
-decreases-measure_stmt l = 2000 - l.i
+decreases-measure_stmt l = length l.nodes.now - l.i

@@ -4,15 +4,13 @@ use Rattle.compiler.proofs.Noted.{noted_proc}
 use Rattle.compiler.proofs.places.place_proc.Goals as goal
 
 pub overflow_add-body_place : goal.overflow_add-body_place
-overflow_add-body_place c = omega (arith, (proc_facts c.args.nodes.now c.args.procedure c.args.at c.requires).begins)
+overflow_add-body_place c = omega (arith, (proc_facts c.requires).begins)
 
 pub overflow_add-body_place-2 : goal.overflow_add-body_place-2
-overflow_add-body_place-2 c = omega (arith, (proc_facts c.args.nodes.now c.args.procedure c.args.at c.requires).begins)
+overflow_add-body_place-2 c = omega (arith, (proc_facts c.requires).begins)
 
 pub place_stmt-requires : goal.place_stmt-requires
-place_stmt-requires c = (proc_facts c.args.nodes.now c.args.procedure c.args.at c.requires).body_works
+place_stmt-requires c = (proc_facts c.requires).body_works
 
 pub returns : goal.returns
-returns c =
-    let n = c.note-p in let r = c.place_stmt in
-    noted_proc c.args.nodes.now c.args.procedure c.args.at c.args.k c.args.places.now n.result n.new.numbers r.result r.new.places n.ensures r.ensures
+returns c = noted_proc c.args.nodes.now c.args.procedure c.args.at c.args.places.now.items c.note.new.notes.items c.place_stmt.new.places.items c.note.ensures c.place_stmt.ensures

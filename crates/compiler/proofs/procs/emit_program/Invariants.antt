@@ -1,11 +1,14 @@
 use Rattle.std.proofs.Common.{◌≡◌, drop}
+use Rattle.language.specs.Held.{HeldProgram}
 use Rattle.language.specs.Language.{Program}
 use Rattle.codegen.specs.Codegen.{entry, code_procs}
-use Rattle.compiler.specs.Procs.{ProgramHeld}
 use Rattle.compiler.specs.Writing.{put_all}
 use Rattle.compiler.proofs.procs.emit_program.Given as goal
 
 -- what is written and what is left is the whole
-abbrev pub invariant-loop-f : goal.invariant-loop-f
-invariant-loop-f l = (g : Program) → ProgramHeld l.nodes l.table l.count g →
-    (l.at ≡ entry g l.f) × (l.cells ≡ g.cells → put_all l.initial.image l.initial.at (code_procs g g.procs l.initial.at) ≡ put_all l.image l.at (code_procs g (drop l.f g.procs) l.at))
+abbrev pub invariant-loop-procedure : goal.invariant-loop-procedure
+invariant-loop-procedure l = record {
+  same_image : l.writer.image.ghost_name ≡ l.initial.writer.image.ghost_name;
+  whole : (g : Program) → HeldProgram l.parsed g → (l.writer.at ≡ entry g l.procedure-index)
+      × (put_all l.initial.writer.image.now l.initial.writer.at (code_procs g g.procs l.initial.writer.at) ≡ put_all l.writer.image.now l.writer.at (code_procs g (drop l.procedure-index g.procs) l.writer.at));
+}

@@ -1,8 +1,5 @@
-use Rattle.std.proofs.Common.{◌+◌, ◌*◌, drop}
-use Rattle.circuit.specs.Parts.{nand_gates}
-use Rattle.cpu.specs.Ink.{ink}
-use Rattle.cpu.proofs.Inking.{Begun}
+use Rattle.cpu.proofs.BitByBit.{nand_bit}
 use Rattle.cpu.proofs.parts.draw_nands.Given as goal
 
-abbrev pub invariant-loop-i : goal.invariant-loop-i
-invariant-loop-i l = Begun l.initial.sheet 0 (ink (nand_gates l.first l.xs l.ys)) l.sheet (2 * l.i) (ink (nand_gates (l.first + l.i) (drop l.i l.xs) (drop l.i l.ys)))
+abbrev pub ghost-draw_bits : goal.ghost-draw_bits
+ghost-draw_bits a = nand_bit

@@ -1,44 +1,35 @@
-use Rattle.std.proofs.Common.{◌≡◌, ◌+◌, ◌-◌, ◌*◌, ◌≤◌, [], length, get_or, drop, sym, ap, ◌∙◌, arith}
-use borrow.Rule.Slice.PartMut.{put_mid}
-use Rattle.std.proofs.lemmas.List.{drop_all}
-use Rattle.circuit.specs.Parts.{mux_gates}
-use Rattle.circuit.specs.PartsRegisters.{keep_gates}
-use Rattle.cpu.specs.Ink.{ink}
-use Rattle.cpu.proofs.Inking.{begun_more, begun_all, drew_part}
-use Rattle.cpu.proofs.Loops.{mux_size}
-use Rattle.cpu.proofs.PortLoops.{keep_more, keep_size, keep_none}
+use Rattle.std.proofs.Common.{◌≡◌, ◌+◌, ◌*◌, length, None, refl, ap, arith}
+use Rattle.std.specs.Iterator.Adapters.{enumerate_source, enumerate_count, zip_first, zip_second}
+use Rattle.std.specs.Slice.Iter.{iter_rest}
+use Rattle.std.proofs.lemmas.Slice.Zip.{either_empty_from_Zip}
+use Rattle.cpu.proofs.PortLoops.{chosen_more, chosen_all, keep_next, keep_none}
 use Rattle.cpu.proofs.ports.draw_keep.Goals as goal
 
 pub loop-i-preserved : goal.loop-i-preserved
 loop-i-preserved c =
-    let ws = c.args.words.now in
-    let ls = c.args.lines.now in
+    let s = c.loop-i.i-iterator in
+    let t = c.next.new.self in
+    let step = c.in-Some.ensures.steps in
+    let i = c.in-Some.i in
+    let k' = enumerate_count t in
+    let line = c.in-Some.field-0-1-0.now in
     let d = c.args.word.now in
-    let i = c.loop-i.i in
-    let n = c.loop-i.n in
-    let w = c.loop-i.sheet in
-    let l = get_or ls i (0, 0) in
-    let x = get_or ws i [] in
-    let wide : length x ≡ 16 = c.told-words i c.loop-i-test.true in
-    let long : length d ≡ 16 = omega arith in
-    let size = mux_size n l.0 l.1 d x (long ∙ sym wide) in
-    let m : 96 * i + length (ink (mux_gates n l.0 l.1 d x)) ≡ 96 * (i + 1) = omega arith in
-    let room : 96 * i ≤ length w = omega arith in
-    let num : c.loop-i.n + 48 ≡ c.args.first + 48 * (c.loop-i.i + 1) = omega (arith, c.loop-i.invariant.1) in (
-      begun_more c.args.sheet.now 0 (ink (keep_gates c.args.first ls d ws)) w (96 * i) (ink (keep_gates n (drop i ls) d (drop i ws))) (ink (mux_gates n l.0 l.1 d x)) (ink (keep_gates (n + 48) (drop (i + 1) ls) d (drop (i + 1) ws))) (put_mid (96 * i) (length w - 96 * i) w c.draw_mux.new.sheet) (96 * (i + 1))
-          c.loop-i.invariant.0 (keep_more n ls d ws i c.loop-i-test.true c.requires.same long c.told-words) (drew_part w (96 * i) (ink (mux_gates n l.0 l.1 d x)) c.draw_mux.new.sheet room c.draw_mux.ensures) m,
-      num,
+    let x = c.in-Some.kept.now in
+    let n = c.args.first + 48 * i in
+    let n' = c.args.first + 48 * k' in
+    let ld : length d ≡ 16 = omega arith in
+    let lx : length x ≡ 16 = omega arith in
+    let next : c.args.first + 48 * i + 48 ≡ c.args.first + 48 * k' = omega arith in (
+      omega (arith, ap length step.0.1),
+      chosen_more n line.0 line.1 d x step.1 step.2 ld lx (keep_next n n' d next step.0.0 step.0.1 ld lx) (omega arith) c.draw_mux.ensures (rw step.1 c.loop-i.invariant.1),
     )
 
 pub returns : goal.returns
 returns c =
-    let ws = c.args.words.now in
-    let ls = c.args.lines.now in
-    let d = c.args.word.now in
-    let i = c.loop-i.i in
-    let n = c.loop-i.n in
-    let long : length d ≡ 16 = omega arith in
-    let size = keep_size c.args.first ls d ws c.requires.same long c.told-words in
-    let m : 96 * i ≡ 0 + length (ink (keep_gates c.args.first ls d ws)) = omega arith in
-    begun_all c.args.sheet.now 0 (ink (keep_gates c.args.first ls d ws)) c.loop-i.sheet (96 * i) (ink (keep_gates n (drop i ls) d (drop i ws)))
-    c.loop-i.invariant.0 (ap ink (keep_none n (drop i ls) d (drop i ws) (drop_all i ls (omega arith)))) m
+    let s = c.loop-i.i-iterator in
+    let k = enumerate_count s in
+    let us = iter_rest (zip_first (enumerate_source s)) in
+    let vs = iter_rest (zip_second (enumerate_source s)) in
+    let n = c.args.first + 48 * k in
+    let ended = either_empty_from_Zip (enumerate_source s) (enumerate_source c.next.new.self) None refl c.in-None.ensures.steps.0 in
+    chosen_all c.loop-i.invariant.1 (keep_none n us c.args.word.now vs ended)

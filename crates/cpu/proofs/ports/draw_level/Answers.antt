@@ -1,59 +1,39 @@
-use Rattle.std.proofs.Common.{◌≡◌, ◌+◌, ◌-◌, ◌*◌, ◌<◌, ◌≤◌, [], length, get_or, drop, sym, ap, ◌∙◌, arith}
-use borrow.Rule.Slice.PartMut.{put_mid}
-use Rattle.std.proofs.lemmas.List.{length-drop, take_rest}
-use Rattle.circuit.specs.Parts.{mux_gates}
-use Rattle.circuit.specs.PartsRegisters.{level_gates}
-use Rattle.cpu.specs.Ink.{ink}
-use Rattle.cpu.proofs.Inking.{begun_more, begun_all, drew_part}
-use Rattle.cpu.proofs.Loops.{mux_size}
-use Rattle.cpu.proofs.PortLoops.{level_more, level_size, level_none}
+use Rattle.std.proofs.Common.{◌≡◌, ◌+◌, ◌*◌, ◌<◌, [], length, get_or, ap, ◌∙◌, arith}
+use Rattle.std.proofs.lemmas.List.{length-append}
+use Rattle.std.specs.Iterator.Adapters.{enumerate_source, enumerate_count}
+use Rattle.std.specs.Slice.Iter.{chunks_exact_rest}
+use Rattle.cpu.proofs.PortLoops.{chosen_more, chosen_all, level_next, level_none}
 use Rattle.cpu.proofs.ports.draw_level.Goals as goal
 
-pub draw_mux-requires : goal.draw_mux-requires
-draw_mux-requires c =
-    let ws = c.args.words.now in
-    let j = c.loop-j.j in
-    let w = c.loop-j.sheet in
-    let upper : length (get_or ws (2 * j + 1) []) ≡ 16 = c.told-words (2 * j + 1) (omega arith) in
-    let lower : length (get_or ws (2 * j) []) ≡ 16 = c.told-words (2 * j) (omega arith) in
-    let rest = ap length (take_rest w (96 * j)) ∙ length-drop (96 * j) w in
-    record {
-      same = upper ∙ sym lower;
-      room = omega (arith, upper, rest);
-      small = omega (arith, upper, c.loop-j.invariant.1);
-    }
-
-pub loop-j-preserved : goal.loop-j-preserved
-loop-j-preserved c =
-    let ws = c.args.words.now in
-    let s = c.args.select in
-    let t = c.args.unselect in
-    let j = c.loop-j.j in
-    let n = c.loop-j.n in
-    let w = c.loop-j.sheet in
-    let y = get_or ws (2 * j + 1) [] in
-    let x = get_or ws (2 * j) [] in
-    let next : 2 * c.loop-j.j + 1 < length c.args.words.now = omega arith in
-    let upper : length y ≡ 16 = c.told-words (2 * j + 1) next in
-    let lower : length x ≡ 16 = c.told-words (2 * j) (omega arith) in
-    let size = mux_size n s t y x (upper ∙ sym lower) in
-    let m : 96 * j + length (ink (mux_gates n s t y x)) ≡ 96 * (j + 1) = omega arith in
-    let room : 96 * j ≤ length w = omega arith in
-    let num : c.loop-j.n + 48 ≡ c.args.first + 48 * (c.loop-j.j + 1) = omega (arith, c.loop-j.invariant.1) in (
-      begun_more c.args.sheet.now 0 (ink (level_gates c.args.first s t ws)) w (96 * j) (ink (level_gates n s t (drop (2 * j) ws))) (ink (mux_gates n s t y x)) (ink (level_gates (n + 48) s t (drop (2 * (j + 1)) ws))) (put_mid (96 * j) (length w - 96 * j) w c.draw_mux.new.sheet) (96 * (j + 1))
-          c.loop-j.invariant.0 (level_more n s t ws j next c.told-words) (drew_part w (96 * j) (ink (mux_gates n s t y x)) c.draw_mux.new.sheet room c.draw_mux.ensures) m,
-      num,
+pub loop-i-preserved : goal.loop-i-preserved
+loop-i-preserved c =
+    let s = c.loop-i.i-iterator in
+    let t = c.next.new.self in
+    let step = c.in-Some.ensures.steps in
+    let i = c.in-Some.i in
+    let k = enumerate_count s in
+    let k' = enumerate_count t in
+    let pair = c.in-Some.pair.now in
+    let y = get_or pair 1 [] in
+    let x = get_or pair 0 [] in
+    let ws = chunks_exact_rest (enumerate_source t) in
+    let us = chunks_exact_rest (enumerate_source s) in
+    let n = c.args.first + 48 * i in
+    let n' = c.args.first + 48 * k' in
+    let two : length c.in-Some.pair.now ≡ 2 = step.0.1.1 ∙ c.loop-i.invariant.0 in
+    let ly : length (get_or c.in-Some.pair.now 1 []) ≡ 16 = omega arith in
+    let lx : length (get_or c.in-Some.pair.now 0 []) ≡ 16 = omega arith in
+    let next : c.args.first + 48 * i + 48 ≡ c.args.first + 48 * k' = omega arith in (
+      step.0.0 ∙ c.loop-i.invariant.0,
+      omega (arith, ap length step.0.1.0, length-append pair ws),
+      chosen_more n c.args.line.0 c.args.line.1 y x step.1 step.2 ly lx (level_next n n' c.args.line.0 c.args.line.1 pair ws us next step.0.1.0 two ly lx) (omega arith) c.draw_mux.ensures (rw step.1 c.loop-i.invariant.2),
     )
 
 pub returns : goal.returns
 returns c =
-    let ws = c.args.words.now in
-    let s = c.args.select in
-    let t = c.args.unselect in
-    let j = c.loop-j.j in
-    let n = c.loop-j.n in
-    let size = level_size c.args.first s t ws c.told-words in
-    let m : 96 * j ≡ 0 + length (ink (level_gates c.args.first s t ws)) = omega arith in
-    let few : length (drop (2 * j) ws) ≤ 1 = omega (arith, length-drop (2 * j) ws) in
-    begun_all c.args.sheet.now 0 (ink (level_gates c.args.first s t ws)) c.loop-j.sheet (96 * j) (ink (level_gates n s t (drop (2 * j) ws)))
-    c.loop-j.invariant.0 (ap ink (level_none n s t (drop (2 * j) ws) few)) m
+    let s = c.loop-i.i-iterator in
+    let k = enumerate_count s in
+    let us = chunks_exact_rest (enumerate_source s) in
+    let n = c.args.first + 48 * k in
+    let ended : length (chunks_exact_rest (enumerate_source c.loop-i.i-iterator)) < 2 = omega (arith, c.in-None.ensures.steps.0.1.0, c.loop-i.invariant.0) in
+    chosen_all c.loop-i.invariant.2 (level_none n c.args.line.0 c.args.line.1 us ended)

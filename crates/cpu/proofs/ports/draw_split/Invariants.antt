@@ -1,8 +1,5 @@
-use Rattle.std.proofs.Common.{◌≡◌, ◌+◌, ◌*◌, drop}
-use Rattle.circuit.specs.PartsRegisters.{split_gates}
-use Rattle.cpu.specs.Ink.{ink}
-use Rattle.cpu.proofs.Inking.{Begun}
+use Rattle.cpu.proofs.BitByBit.{split_bit}
 use Rattle.cpu.proofs.ports.draw_split.Given as goal
 
-abbrev pub invariant-loop-i : goal.invariant-loop-i
-invariant-loop-i l = (Begun l.initial.sheet 0 (ink (split_gates l.first l.select l.unselect l.lines)) l.sheet (8 * l.i) (ink (split_gates l.n l.select l.unselect (drop l.i l.lines)))) × (l.n ≡ l.first + 4 * l.i)
+abbrev pub ghost-draw_bits : goal.ghost-draw_bits
+ghost-draw_bits a = split_bit a.draw.1 a.draw.0

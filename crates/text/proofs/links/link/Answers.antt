@@ -1,9 +1,6 @@
 use Rattle.std.proofs.Common.{◌≡◌, ℕ, ◌+◌, ◌-◌, refl, ◌∙◌, subst, arith}
-use Rattle.text.proofs.Linking.{Half, half_more, half_all, half_none, ends_fill}
+use Rattle.text.proofs.Linking.{Half, half_more, half_none, ends_fill}
 use Rattle.text.proofs.links.link.Goals as goal
-
-pub linked-node-requires : goal.linked-node-requires
-linked-node-requires c = (omega arith, c.loop-i.invariant.ok)
 
 pub loop-i-init : goal.loop-i-init
 loop-i-init c = half_none c.args.nodes.now _ c.args.n (ends_fill 2001 refl)
@@ -14,8 +11,3 @@ loop-i-preserved c =
     half_more c.args.nodes.now c.loop-i.nodes c.loop-i.ends (c.loop-i.i - 1) c.args.n _ _ (omega arith) c.requires (c.loop-i.invariant.size ∙ c.told-nodes)
     c.linked-node.ensures.0 c.linked-node.ensures.1
     (subst (λ (i : ℕ). Half c.args.nodes.now c.loop-i.nodes c.loop-i.ends i c.args.n) i1 c.loop-i.invariant)
-
-pub returns : goal.returns
-returns c =
-    let z : c.loop-i.i ≡ 0 = omega arith in
-    (c.loop-i.ends, half_all c.args.nodes.now c.loop-i.nodes c.loop-i.ends c.args.n (subst (λ (i : ℕ). Half c.args.nodes.now c.loop-i.nodes c.loop-i.ends i c.args.n) z c.loop-i.invariant))

@@ -1,39 +1,42 @@
-use Rattle.std.proofs.Common.{◌≡◌, false, ◌&&◌, leb, sym, refl, ◌∙◌, ⊎_elim, arith}
-use Rattle.std.proofs.lemmas.Bool.{and_left, and_right, lt-leb}
-use Rattle.text.specs.Text.{most_signs}
-use Rattle.text.proofs.Judging.{judged_stuck, judged_undone, judged_limits}
-use Rattle.text.proofs.Loading.{Stands, stands}
+use Rattle.std.proofs.Common.{sym, ◌∙◌, arith}
+use Rattle.std.proofs.lemmas.Result.{err_from_is_err_and}
+use Rattle.text.proofs.Judging.{missing, judged_stuck}
+use Rattle.text.proofs.Loading.{Complete, complete, count_few, procs_stand}
 use Rattle.text.proofs.load.load.Goals as goal
 
-pub returns-in_default : goal.returns-in_default
-returns-in_default c = (judged_stuck c.args.text.now (sym c.in_default.ensures.reads), refl)
+pub returns-in_err-reader : goal.returns-in_err-reader
+returns-in_err-reader c =
+    let p = err_from_is_err_and c.from_residual.result c.from_residual.ensures.1 in
+    let m = missing c.read.result c.in_err-reader.field-0.0 c.in_err-reader.ensures.value in
+    rw (p.1, p.2, m.1) (judged_stuck c.args.text.now (sym (m.0 ∙ c.read.ensures.reads)))
 
-pub returns-then-not-is_done : goal.returns-then-not-is_done
-returns-then-not-is_done c = (judged_undone c.args.text.now c.in-Some.reader c.in-Some.ensures.reads (sym c.if-not-is_done.ensures), refl)
+pub link-requires : goal.link-requires
+link-requires c =
+    let k : Complete c.args.text.now c.in_ok-reader.reader = complete c.args.text.now c.in_ok-reader.reader c.read.result c.in_ok-reader.ensures.ok_part c.read.ensures.reads c.in_ok-verdict.ensures in
+    omega arith
 
-pub returns-then-not-reader : goal.returns-then-not-reader
-returns-then-not-reader c =
-    let a = c.in-Some.reader in
-    let no : a.fits && leb a.signs most_signs ≡ false = ⊎_elim (λ h. and_left a.fits (leb a.signs most_signs) h) (λ h. and_right a.fits (leb a.signs most_signs) (lt-leb a.signs most_signs h.1)) c.then-not-reader.either in
-    (judged_limits c.args.text.now a c.in-Some.ensures.reads (sym c.if-not-is_done.ensures) no, refl)
-
-pub tabulate-requires : goal.tabulate-requires
-tabulate-requires c =
-    let a = c.in-Some.reader in let f = c.in-Some.ensures.fills in let l = c.link.ensures in
-    let t : Stands c.args.text.now a c.link.new.nodes = stands c.args.text.now a c.read.new.nodes c.link.new.nodes l.0 c.in-Some.ensures.reads (sym c.if-not-is_done.ensures) c.if-not-reader.false c.if-reader-gt-MOST_SIGNS.false c.read.array_long (f.0 c.if-not-reader.false c.if-reader-gt-MOST_SIGNS.false) l.1 in
-    record { few = omega (arith, t.knows.count, t.few); stand = (t.program.procs, sym t.knows.count, t.procs) }
+pub tabulate-table-requires : goal.tabulate-table-requires
+tabulate-table-requires c =
+    let k : Complete c.args.text.now c.in_ok-reader.reader = complete c.args.text.now c.in_ok-reader.reader c.read.result c.in_ok-reader.ensures.ok_part c.read.ensures.reads c.in_ok-verdict.ensures in
+    record {
+      few = count_few c.args.text.now c.in_ok-reader.reader k;
+      stand = (k.program.procs, sym k.knows.count, procs_stand c.args.text.now c.in_ok-reader.reader c.read.result c.read.new.nodes c.link.new.nodes k c.in_ok-reader.ensures.ok_part c.read.array_long c.read.ensures.fills c.link.ensures);
+    }
 
 pub returns : goal.returns
 returns c =
-    let a = c.in-Some.reader in let f = c.in-Some.ensures.fills in let l = c.link.ensures in
-    let t : Stands c.args.text.now a c.link.new.nodes = stands c.args.text.now a c.read.new.nodes c.link.new.nodes l.0 c.in-Some.ensures.reads (sym c.if-not-is_done.ensures) c.if-not-reader.false c.if-reader-gt-MOST_SIGNS.false c.read.array_long (f.0 c.if-not-reader.false c.if-reader-gt-MOST_SIGNS.false) l.1 in
-    let k = t.knows in
+    let k : Complete c.args.text.now c.in_ok-reader.reader = complete c.args.text.now c.in_ok-reader.reader c.read.result c.in_ok-reader.ensures.ok_part c.read.ensures.reads c.in_ok-verdict.ensures in
     record {
-      program = t.program;
-      reads = t.reads;
-      within = t.within;
-      sized = record { globals = k.globals; cells = k.cells; procs = k.count; signs = k.signs };
-      holds = c.tabulate.ensures.holds t.program.procs (sym k.count) t.procs;
-      nodes_past = λ j h. l.1.others j h ∙ f.1 j h;
-      entries_past = c.tabulate.ensures.others;
+      program = k.program;
+      reads = k.reads;
+      held = record {
+        within = k.within;
+        sized = record { globals = k.knows.globals; cells = k.knows.cells; procs = k.knows.count; signs = k.knows.signs };
+        holds = c.tabulate-table.ensures k.program.procs (sym k.knows.count) (procs_stand c.args.text.now c.in_ok-reader.reader c.read.result c.read.new.nodes c.link.new.nodes k c.in_ok-reader.ensures.ok_part c.read.array_long c.read.ensures.fills c.link.ensures);
+      };
     }
+
+pub invariant_of-result : goal.invariant_of-result
+invariant_of-result c =
+    let k : Complete c.args.text.now c.in_ok-reader.reader = complete c.args.text.now c.in_ok-reader.reader c.read.result c.in_ok-reader.ensures.ok_part c.read.ensures.reads c.in_ok-verdict.ensures in
+    record { few = count_few c.args.text.now c.in_ok-reader.reader k }

@@ -1,6 +1,7 @@
-use Rattle.std.proofs.Common.{arith}
-use Rattle.text.proofs.Noting.{notes_past}
+use Rattle.text.proofs.Noting.{noted}
 use Rattle.text.proofs.signs.note.Goals as goal
 
-pub returns-then-k-ge-MOST_NODES : goal.returns-then-k-ge-MOST_NODES
-returns-then-k-ge-MOST_NODES c = notes_past c.args.numbers.now c.args.k c.args.n (omega arith)
+pub returns : goal.returns
+returns c =
+    let p = c.try_push in let e = p.ensures in
+    noted p.result c.args.notes.now p.new.self c.args.n e.variant.0 e.ok e.err e.full

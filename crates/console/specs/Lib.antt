@@ -1,0 +1,2 @@
+-- What the programs' arguments ask for.
+pub mod Request

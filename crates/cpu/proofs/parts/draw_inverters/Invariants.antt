@@ -1,8 +1,0 @@
-use Rattle.std.proofs.Common.{◌+◌, ◌*◌, drop}
-use Rattle.circuit.specs.Parts.{inverter_gates}
-use Rattle.cpu.specs.Ink.{ink}
-use Rattle.cpu.proofs.Inking.{Begun}
-use Rattle.cpu.proofs.parts.draw_inverters.Given as goal
-
-abbrev pub invariant-loop-i : goal.invariant-loop-i
-invariant-loop-i l = Begun l.initial.sheet 0 (ink (inverter_gates l.first l.xs)) l.sheet (2 * l.i) (ink (inverter_gates (l.first + l.i) (drop l.i l.xs)))
