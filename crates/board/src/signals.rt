@@ -34,6 +34,16 @@ fn lay_word(lines: &mut [u8], word: u16)
     }
 }
 
+// Lays the flip-flops' levels. By place: a slice's copy wants a function of the C library, and a caller in C may have none.
+fn lay_state(lines: &mut [u8], state: &[u8])
+    requires { length lines.old ≡ length state.now }
+    ensures { lines.new ≡ state.now }
+{
+    for (i, level) in state.iter().enumerate() {
+        lines[i] = *level;
+    }
+}
+
 // Lays the signals before the gates: low, high, the word handed over, the tape's next word, the flip-flops.
 pub fn lay_inputs(work: &mut [u8], read: u16, front: u16, state: &[u8])
     requires room { input_signals + length state.now ≤ length work.old }
@@ -44,7 +54,7 @@ pub fn lay_inputs(work: &mut [u8], read: u16, front: u16, state: &[u8])
     work[1] = 1;
     lay_word(&mut work[READ_SIGNALS..TAPE_SIGNALS], read);
     lay_word(&mut work[TAPE_SIGNALS..INPUT_SIGNALS], front);
-    work[INPUT_SIGNALS..INPUT_SIGNALS + state.len()].copy_from_slice(state);
+    lay_state(&mut work[INPUT_SIGNALS..INPUT_SIGNALS + state.len()], state);
 }
 
 // Settles all gates in order: each is the NAND of its two signals. These stand side by side in `wires`, and the levels

@@ -31,7 +31,7 @@ pub fn read_arguments(
         match request.take(name, text) {
             Ok(()) => {}
             Err(RequestError::NoNumber) => bail!("not {what}: '{text}'"),
-            Err(RequestError::OutOfMemory) => bail!("out of memory"),
+            Err(RequestError::OutOfMemory) => bail!("{}", RequestError::OutOfMemory),
             Err(e) => bail!("{e}: '{text}'"),
         }
         if request.tape.len() > most {

@@ -26,7 +26,7 @@ pub enum RequestError {
     NoNumber,
     #[error("a tape word is a number below 65536")]
     NoWord,
-    #[error("out of memory")]
+    #[error("memory allocation failed")]
     OutOfMemory,
 }
 

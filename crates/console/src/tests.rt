@@ -1,6 +1,6 @@
 // Arguments and texts as the programs are given them.
 use crate::request::{Argument, Request, RequestError, classify};
-use crate::text::read_text;
+use crate::text::{read_text, read_text_within};
 use std::{env, io};
 
 #[test]
@@ -55,5 +55,16 @@ fn reads_a_text_within_its_limit(rt: HostRuntime) -> io::Result<()> {
     let mut longer = b"skip ".as_slice();
     let none = read_text(rt.alloc(), &mut longer, 4)?;
     assert!(rt; none.is_none());
+    Ok(())
+}
+
+#[test]
+fn reads_a_text_within_its_reads(rt: HostRuntime) -> io::Result<()> {
+    let mut input = b"skip".as_slice();
+    let text = read_text_within(rt.alloc(), &mut input, 4, 2)?;
+    assert!(rt; text.is_some_and(|t| t.as_slice() == b"skip".as_slice()));
+    let mut endless = b"skip".as_slice();
+    let error = read_text_within(rt.alloc(), &mut endless, 4, 1).err();
+    assert!(rt; error.is_some_and(|e| e.kind() == io::ErrorKind::Other));
     Ok(())
 }

@@ -4,7 +4,7 @@
 use anyhow::bail;
 use console::arguments::read_arguments;
 use console::exit::finish;
-use console::text::read_text;
+use console::text::read_text_within;
 use stack::{FLOPS, IMAGE, Lit, SHEET, SIGNALS};
 use std::alloc::Global;
 use std::env;
@@ -26,6 +26,9 @@ index or full), or that it has not.
 const MOST_BYTES: usize = 1_048_576;
 
 const MOST_WORDS: usize = 100_000;
+
+// A text that has not ended after so many reads is refused.
+const MOST_READS: u64 = 1_000_000;
 
 const CYCLES: u64 = 2_000_000;
 
@@ -73,7 +76,8 @@ fn hvrun(rt: &HostRuntime) -> anyhow::Result<()> {
     if request.help {
         writeln!(out, "{HELP}")?;
     } else {
-        let Some(text) = read_text(rt.alloc(), &mut rt.stdin(), MOST_BYTES)? else {
+        let input = &mut rt.stdin();
+        let Some(text) = read_text_within(rt.alloc(), input, MOST_BYTES, MOST_READS)? else {
             bail!("the text is longer than {MOST_BYTES} bytes");
         };
         run_text(

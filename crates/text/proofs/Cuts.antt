@@ -1,12 +1,11 @@
 -- A text's words from its front. First a blank goes and any other byte joins the first word; then where the first word
 -- begins and how far it goes; then what is cut off: blanks and a word.
-use Rattle.std.proofs.Common.{◌≡◌, ℕ, zero, suc, ◌+◌, ◌-◌, ◌<◌, ◌≤◌, Bool, true, false, cond, not, List, [], ◌∷◌, length, get_or, take, drop, nat_lt, Some, None, Option, sym, refl, ap, ◌∙◌, add-zero, arith}
-use Rattle.std.specs.List.{position, position_or_len}
-use Rattle.std.specs.Option.{unwrap_or}
-use Rattle.std.proofs.lemmas.Bool.{both_ways, not-true, ltb-true, ltb-false}
-use Rattle.std.proofs.lemmas.List.{drop_all, length-drop, length-take, get_or-drop}
+use Rattle.std.proofs.Common.{◌≡◌, ℕ, zero, suc, ◌+◌, ◌-◌, ◌<◌, ◌≤◌, Bool, true, false, cond, not, List, [], ◌∷◌, length, get_or, take, drop, sym, refl, ap, ◌∙◌, add-zero, arith}
+use Rattle.std.specs.List.{position_or_len}
+use Rattle.std.proofs.lemmas.Bool.{both_ways, not-true}
+use Rattle.std.proofs.lemmas.List.{drop_more, drop_all, length-drop, length-take, get_or-drop, nil_from_length}
 use Rattle.std.proofs.lemmas.List.Sums.{passes_at_first, prefix_len-le-length}
-use Rattle.text.specs.Cut.{Cut}
+use Rattle.text.specs.Cut.{Cut, letter}
 use Rattle.text.specs.Text.{words, blank, split, close}
 
 -- the first word, and the words after it
@@ -22,10 +21,23 @@ split_letter c cs e = ap (λ (b : Bool). cond {A = Split} b ([], words cs) (c �
 pub words_blank : (c : ℕ) (cs : List ℕ) → blank c ≡ true → words (c ∷ cs) ≡ words cs
 words_blank c cs e = ap (λ (r : Split). close r.0 r.1) (split_blank c cs e)
 
--- Where the first byte stands that is no blank, and where the first blank stands.
-abbrev pub letter : ℕ → Bool
-letter c = not (blank c)
+-- The place that a loop over the first i bytes has still to find: one byte on, where it is found, and where there is none.
+pub place_more : (p : ℕ → Bool) (s : List ℕ) (i : ℕ) → i < length s → p (get_or s i 0) ≡ false → position_or_len p s ≡ i + position_or_len p (drop i s) → position_or_len p s ≡ (i + 1) + position_or_len p (drop (i + 1) s)
+place_more p s i h e inv =
+    let n : position_or_len p (drop i s) ≡ 1 + position_or_len p (drop (i + 1) s) = ap (position_or_len p) (drop_more s i 0 h) ∙ ap (λ (b : Bool). cond (not b) (1 + position_or_len p (drop (i + 1) s)) 0) e in
+    omega (arith, inv, n)
 
+pub place_found : (p : ℕ → Bool) (s : List ℕ) (i : ℕ) → i < length s → p (get_or s i 0) ≡ true → position_or_len p s ≡ i + position_or_len p (drop i s) → i ≡ position_or_len p s
+place_found p s i h e inv =
+    let n : position_or_len p (drop i s) ≡ 0 = ap (position_or_len p) (drop_more s i 0 h) ∙ ap (λ (b : Bool). cond (not b) (1 + position_or_len p (drop (i + 1) s)) 0) e in
+    omega (arith, inv, n)
+
+pub place_none : (p : ℕ → Bool) (s : List ℕ) (i : ℕ) → length s ≤ i → i ≤ length s → position_or_len p s ≡ i + position_or_len p (drop i s) → length s ≡ position_or_len p s
+place_none p s i h l inv =
+    let n : position_or_len p (drop i s) ≡ 0 = ap (position_or_len p) (drop_all i s h) in
+    omega (arith, inv, n)
+
+-- Where the first byte stands that is no blank, and where the first blank stands.
 pub words_skip : (s : List ℕ) → words s ≡ words (drop (position_or_len letter s) s)
 words_skip [] = refl
 words_skip (c ∷ cs) = skip (blank c) refl (words_skip cs)
@@ -75,43 +87,20 @@ letter_first t e h = first (position_or_len blank t) refl
     first zero z = let p : blank (get_or t 0 0) ≡ true = ap (λ (n : ℕ). blank (get_or t n 0)) (sym z) ∙ passes_at_first blank t 0 (omega arith) in absurd (both_ways (blank (get_or t 0 0)) (not-true (blank (get_or t 0 0)) e) p)
     first (suc n) z = omega arith
 
--- the place that is found, or the length where there is none
-found_place : (p : ℕ → Bool) (s : List ℕ) (i : ℕ) → position p s ≡ Some i → (i ≡ position_or_len p s) × (i < length s)
-found_place p s i = at (nat_lt (position_or_len p s) (length s)) refl
-  where
-    at : (b : Bool) → nat_lt (position_or_len p s) (length s) ≡ b → cond b (Some (position_or_len p s)) None ≡ Some i → (i ≡ position_or_len p s) × (i < length s)
-    at true e h = let same : position_or_len p s ≡ i = cc in (sym same, omega (arith, ltb-true (position_or_len p s) (length s) e))
-    at false e h = absurd (cc)
-
-found_none : (p : ℕ → Bool) (s : List ℕ) → position p s ≡ None → length s ≤ position_or_len p s
-found_none p s = at (nat_lt (position_or_len p s) (length s)) refl
-  where
-    at : (b : Bool) → nat_lt (position_or_len p s) (length s) ≡ b → ◌≡◌ {A = Option ℕ} (cond b (Some (position_or_len p s)) None) None → length s ≤ position_or_len p s
-    at true e h = absurd (cc)
-    at false e h = ltb-false (position_or_len p s) (length s) e
-
-found_or_all : (p : ℕ → Bool) (s : List ℕ) → unwrap_or (position p s) (length s) ≡ position_or_len p s
-found_or_all p s = at (nat_lt (position_or_len p s) (length s)) refl
-  where
-    at : (b : Bool) → nat_lt (position_or_len p s) (length s) ≡ b → unwrap_or (cond b (Some (position_or_len p s)) None) (length s) ≡ position_or_len p s
-    at true e = refl
-    at false e = omega (arith, ltb-false (position_or_len p s) (length s) e, prefix_len-le-length (λ x. not (p x)) s)
-
 -- what is cut off: blanks and a word, by the places that are found
-pub cut_none : (s : List ℕ) → position letter s ≡ None → words s ≡ []
-cut_none s e = words_skip s ∙ ap words (drop_all (position_or_len letter s) s (found_none letter s e))
+pub cut_none : (s t : List ℕ) (b : ℕ) → t ≡ drop b s → b ≡ position_or_len letter s → length t ≡ 0 → words s ≡ []
+cut_none s t b q1 q2 e =
+    words_skip s ∙ ap (λ (i : ℕ). words (drop i s)) (sym q2) ∙ sym (ap words q1) ∙ ap words (nil_from_length t e)
 
-pub cut_some : (s t w r : List ℕ) (b n : ℕ) → position letter s ≡ Some b → t ≡ drop b s → n ≡ unwrap_or (position blank t) (length t) → w ≡ take n t → r ≡ drop n t → Cut s w r
-cut_some s t w r b n e q1 q2 q3 q4 =
-    let p = found_place letter s b e in
+pub cut_some : (s t w r : List ℕ) (b n : ℕ) → t ≡ drop b s → b ≡ position_or_len letter s → 0 < length t → n ≡ position_or_len blank t → w ≡ take n t → r ≡ drop n t → Cut s w r
+cut_some s t w r b n q1 e h m q3 q4 =
     let lt : length t ≡ length s - b = ap length q1 ∙ length-drop b s in
-    let m : n ≡ position_or_len blank t = q2 ∙ found_or_all blank t in
     let lm : position_or_len blank t ≤ length t = prefix_len-le-length letter t in
-    let g : get_or t 0 0 ≡ get_or s (position_or_len letter s) 0 = ap (λ (x : List ℕ). get_or x 0 0) q1 ∙ get_or-drop b s 0 0 ∙ ap (λ (i : ℕ). get_or s i 0) (add-zero b ∙ p.0) in
-    let some : 0 < n = omega (arith, letter_first t (ap letter g ∙ passes_at_first letter s 0 (omega arith)) (omega arith)) in
+    let g : get_or t 0 0 ≡ get_or s (position_or_len letter s) 0 = ap (λ (x : List ℕ). get_or x 0 0) q1 ∙ get_or-drop b s 0 0 ∙ ap (λ (i : ℕ). get_or s i 0) (add-zero b ∙ e) in
+    let some : 0 < n = omega (arith, letter_first t (ap letter g ∙ passes_at_first letter s 0 (omega arith)) h) in
     let lr : length r ≡ length t - n = ap length q4 ∙ length-drop n t in
     let taken : 0 < length (take n t) = simp length-take (omega arith) in
-    let all : words s ≡ words t = words_skip s ∙ ap (λ (i : ℕ). words (drop i s)) (sym p.0) ∙ sym (ap words q1) in
+    let all : words s ≡ words t = words_skip s ∙ ap (λ (i : ℕ). words (drop i s)) (sym e) ∙ sym (ap words q1) in
     record {
       text = all ∙ words_closed t n taken (rw m (closed t)) ∙ ap (λ (x : List ℕ). x ∷ words (drop n t)) (sym q3) ∙ ap (λ (x : List ℕ). w ∷ words x) (sym q4);
       less = omega arith;

@@ -1,7 +1,7 @@
 -- The nodes written so far and those of the words to come are always those of the text. First a list that gets one node
 -- more, or a number into its last node; then a word of each kind, a number by its use, and any step of the reader.
-use Rattle.std.proofs.Common.{◌≡◌, ℕ, ◌+◌, ◌-◌, ◌%◌, ◌<◌, ◌≤◌, Bool, true, cond, List, [], ◌∷◌, ◌++◌, length, take, set, Some, Option, sym, refl, ap, ◌∙◌, subst, append_assoc, arith, ltb→lt}
-use Rattle.std.proofs.lemmas.List.{take_more_set, take-set, get_or-set_same}
+use Rattle.std.proofs.Common.{◌≡◌, ℕ, ◌+◌, ◌-◌, ◌%◌, ◌<◌, ◌≤◌, Bool, true, false, cond, List, [], ◌∷◌, ◌++◌, length, take, set, Some, None, Option, sym, refl, ap, ◌∙◌, subst, append_assoc, arith, ltb→lt}
+use Rattle.std.proofs.lemmas.List.{take_more_set, take-set, get_or-set_same, get_or-set_other}
 use Rattle.words.proofs.Tests.{not_nothing}
 use Rattle.language.specs.Nodes.{node_at, most_nodes}
 use Rattle.language.specs.declared.nodes.Node.{Node}
@@ -14,11 +14,12 @@ use Rattle.text.specs.declared.reader.Need.{Need}
 use Rattle.text.specs.declared.reader.Need.TheVariants.{Start, Number, Owed}
 use Rattle.text.specs.declared.reader.Reader.{Reader}
 use Rattle.text.specs.Text.{decimal}
+use Rattle.text.specs.Kinds.{kind}
 use Rattle.text.specs.Numbers.{number_of}
 use Rattle.text.specs.Shapes.{shape}
 use Rattle.text.specs.Reading.{moved, with_need, taken, step}
 use Rattle.text.specs.Bare.{bare, numbered, has_node, noted_number, noted_kind, noted_at, noted, Placed}
-use Rattle.text.specs.Filling.{in_front, before_nodes, bare_nodes, WrittenPlain, WrittenWaiting, WrittenNumber, WrittenAt, WrittenSoFar}
+use Rattle.text.specs.Filling.{in_front, before_nodes, bare_nodes, WrittenPlain, WrittenWaiting, WrittenNumber, WrittenAt, WrittenSoFar, SameFrom}
 use Rattle.text.proofs.Decimals.{value_decimal, number_of_sound}
 use Rattle.text.proofs.Spellings.{kind_decimal}
 use Rattle.text.proofs.Steps.{Stepped, starts, takes, enters, stepped, owes, Grown, grown}
@@ -125,3 +126,27 @@ filled_more left left' w a b nodes nodes' all q cut e h h2 l f =
     let g : WrittenSoFar a nodes left all = f (k.fits h) (omega (arith, k.signs_up)) in
     subst (λ (ns : List Node). WrittenSoFar b ns left' all) (sym q)
     (step_more w a b nodes left' all (stepped w a b e) (λ o. omega (arith, k.sign o, l)) (omega (arith, k.signs_up, l)) (subst (λ (x : List Word). WrittenSoFar a nodes x all) cut g))
+
+-- A step writes nothing at or past the number of signs read after it.
+same_cond : (t : Bool) (c : ℕ) (before xs ys : List Node) → (t ≡ true → SameFrom c before xs) → SameFrom c before ys → SameFrom c before (cond t xs ys)
+same_cond true c before xs ys f g = f refl
+same_cond false c before xs ys f g = g
+
+same_number : (o : Option ℕ) (c : ℕ) (before nodes : List Node) → 0 < c → SameFrom c before nodes → SameFrom c before (noted_number o c nodes)
+same_number None c before nodes h f = f
+same_number (Some n) c before nodes h f = λ j b. get_or-set_other nodes (c - 1) j _ (N.Num 0) (λ e. omega (arith, e)) ∙ f j b
+
+same_kind : (o : Option Kind) (c : ℕ) (before nodes : List Node) → SameFrom c before nodes → SameFrom (c + 1) before (noted_kind o c nodes)
+same_kind None c before nodes f = λ j b. f j (omega arith)
+same_kind (Some k) c before nodes f = λ j b. get_or-set_other nodes c j _ (N.Num 0) (λ e. omega (arith, e)) ∙ f j (omega arith)
+
+same_noted : (n : Need) (a b : Reader) (w : Word) (before nodes : List Node) → a.need ≡ n → Placed a → Grown a b → SameFrom a.signs before nodes → SameFrom b.signs before (noted_at n a.signs w nodes)
+same_noted Start a b w before nodes q p g f = λ j h. f j (omega (arith, g.signs_up))
+same_noted (Number u) a b w before nodes q p g f = λ j h. same_cond (has_node u) a.signs before (noted_number (number_of w) a.signs nodes) nodes (λ t. same_number (number_of w) a.signs before nodes (p.some u q t) f) f j (omega (arith, g.signs_up))
+same_noted Owed a b w before nodes q p g f = λ j h. same_kind (kind w) a.signs before nodes f j (omega (arith, g.sign q))
+
+pub same_more : (w : Word) (a b : Reader) (before nodes nodes' : List Node) → nodes' ≡ noted a w nodes → Some b ≡ step w a → Placed a → SameFrom a.signs before nodes → SameFrom b.signs before nodes'
+same_more w a b before nodes nodes' q e p f = subst (SameFrom b.signs before) (sym q) (same_noted a.need a b w before nodes refl p (grown w a b e) f)
+
+pub same_on : (w : Word) (a b : Reader) (before nodes : List Node) → Some b ≡ step w a → SameFrom a.signs before nodes → SameFrom b.signs before nodes
+same_on w a b before nodes e f = λ j h. f j (omega (arith, (grown w a b e).signs_up))

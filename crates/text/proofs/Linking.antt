@@ -7,6 +7,7 @@ use Rattle.std.proofs.lemmas.Bool.{cases_eq, cases_lt}
 use Rattle.language.specs.Nodes.{node_at, most_nodes}
 use Rattle.language.specs.declared.nodes.Node.{Node}
 use Rattle.language.specs.declared.nodes.Node.TheVariants.{Num}
+use Rattle.text.specs.Filling.{SameFrom}
 use Rattle.text.specs.Links.{end_of, with_parts, linked_node, parts, past, node_end, Ends, LinkedAt}
 
 -- parts end at or past where they begin
@@ -36,15 +37,16 @@ module _ (ends ends' : List ℕ) (j : ℕ) (o : Ends ends) (same : (k : ℕ) →
   at_same : (bare nodes nodes' : List Node) → j < most_nodes → node_at nodes' j ≡ node_at nodes j → end_of ends' j ≡ end_of ends j → LinkedAt bare nodes ends j → LinkedAt bare nodes' ends' j
   at_same bare nodes nodes' b n e l = (n ∙ l.0 ∙ linked_same (node_at bare j) b, e ∙ l.1 ∙ end_same (node_at bare j) b)
 
--- the nodes from i to n have their numbers, and those before are bare
+-- the nodes from i to n have their numbers, those before are bare, and those past n are as they were
 pub record Half (bare nodes : List Node) (ends : List ℕ) (i n : ℕ) : Type 0 where
   pub ok : Ends ends
   pub size : length nodes ≡ length bare
   pub below : (j : ℕ) → j < i → node_at nodes j ≡ node_at bare j
   pub above : (j : ℕ) → i ≤ j → j < n → LinkedAt bare nodes ends j
+  pub others : SameFrom n bare nodes
 
 pub half_none : (bare : List Node) (ends : List ℕ) (n : ℕ) → Ends ends → Half bare bare ends n n
-half_none bare ends n o = record { ok = o; size = refl; below = λ j h. refl; above = λ j h k. (let no : ⊥ = omega arith in absurd no) }
+half_none bare ends n o = record { ok = o; size = refl; below = λ j h. refl; above = λ j h k. (let no : ⊥ = omega arith in absurd no); others = λ j h. refl }
 
 ends_set : (ends : List ℕ) (i v : ℕ) → Ends ends → i < most_nodes → i < v → v ≤ most_nodes → Ends (set ends i v)
 ends_set ends i v o b lo hi =
@@ -76,6 +78,7 @@ half_more bare nodes ends i n d v b b2 len qd qv h =
           (λ (ne : j ≡ i → ⊥). at_same ends (set ends i v) j h.ok (λ k p2. same k (omega arith)) bare nodes (set nodes i d) (omega arith)
           (get_or-set_other nodes i j d (Num 0) ne) (get_or-set_other ends i j v 0 ne) (h.above j (omega arith) q))
           (cases_eq j i);
+      others = λ j p. get_or-set_other nodes i j d (Num 0) (omega arith) ∙ h.others j p;
     }
 
 -- at the start every node ends with the array

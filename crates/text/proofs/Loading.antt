@@ -15,7 +15,7 @@ use Rattle.text.specs.Text.{words, decimal, write_procs, writable, writable_proc
 use Rattle.text.specs.Verdicts.{Judged}
 use Rattle.text.specs.Kinds.{kind}
 use Rattle.text.specs.Reading.{run, fresh, done}
-use Rattle.text.specs.Filling.{bare_nodes, WrittenAt, WrittenSoFar, Filled}
+use Rattle.text.specs.Filling.{bare_nodes, WrittenAt, WrittenSoFar, Filled, SameFrom}
 use Rattle.text.specs.Links.{Linked}
 use Rattle.text.specs.Table.{ProcsAt}
 use Rattle.text.proofs.Decimals.{number_of_decimal}
@@ -89,11 +89,15 @@ complete s a o is read judged =
 pub count_few : (s : List ℕ) (a : Reader) → Complete s a → a.count ≤ most_procs
 count_few s a c = omega (arith, c.knows.count, (within c.program (T_true (fits c.program) c.within)).procs)
 
-pub procs_stand : (s : List ℕ) (a : Reader) (o : Option Reader) (bare nodes : List Node) (c : Complete s a) → o ≡ Some a → length bare ≡ most_nodes → Filled (words s) bare o → (ends : List ℕ) × Linked bare nodes ends a.signs → ProcsAt nodes 0 c.program.procs
-procs_stand s a o bare nodes c is len filled l =
+pub procs_stand : (s : List ℕ) (a : Reader) (o : Option Reader) (before bare nodes : List Node) (c : Complete s a) → o ≡ Some a → length bare ≡ most_nodes → Filled (words s) before bare o → (ends : List ℕ) × Linked bare nodes ends a.signs → ProcsAt nodes 0 c.program.procs
+procs_stand s a o before bare nodes c is len filled l =
     let ends = l.0 in let linked = l.1 in
     let ps = c.program.procs in let size = c.knows.signs in
-    let written : WrittenSoFar a bare [] (bare_nodes (words s)).1 = subst (Filled (words s) bare) is filled c.kept c.few in
+    let written : WrittenSoFar a bare [] (bare_nodes (words s)).1 = (subst (Filled (words s) before bare) is filled).0 c.kept c.few in
     let row : take a.signs bare ≡ row_procs ps = written_all a.need a.exprs a.stmts a.procs a.signs bare (bare_nodes (words s)).1 c.done written ∙ program_row s c.program c.reads (T_true (fits c.program) c.within) in
     let slot : Slot bare 0 (row_procs ps) = record { front = []; back = drop a.signs bare; at = refl; is = sym (take-append-drop a.signs bare) ∙ ap (λ x. x ++ drop a.signs bare) row } in
     tree_procs bare nodes ends a.signs linked (omega (arith, linked.size)) ps 0 most_nodes slot (omega arith) (omega arith)
+
+-- the nodes past them are as they were
+pub nodes_past : (s : List ℕ) (a : Reader) (o : Option Reader) (before bare nodes : List Node) → o ≡ Some a → Filled (words s) before bare o → (ends : List ℕ) × Linked bare nodes ends a.signs → SameFrom a.signs before nodes
+nodes_past s a o before bare nodes is filled l = λ j h. l.1.others j h ∙ (subst (Filled (words s) before bare) is filled).1 j h

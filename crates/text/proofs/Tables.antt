@@ -1,7 +1,7 @@
 -- The table of procedures, one entry after the other: what is done, what is left, and one entry more.
-use Rattle.std.proofs.Common.{◌≡◌, ℕ, zero, suc, ◌+◌, ◌<◌, ◌≤◌, List, [], ◌∷◌, ◌++◌, length, drop, set, sym, refl, ap, ◌∙◌, subst, ⊎_elim, arith}
+use Rattle.std.proofs.Common.{◌≡◌, ℕ, zero, suc, ◌+◌, ◌-◌, ◌<◌, ◌≤◌, List, [], ◌∷◌, ◌++◌, length, drop, set, sym, refl, ap, ◌∙◌, subst, ⊎_elim, arith}
 use mathlib.Core.Option.{some}
-use Rattle.std.proofs.lemmas.List.{get_or-set_same, get_or-set_other, get_or_append_left}
+use Rattle.std.proofs.lemmas.List.{get_or-set_same, get_or-set_other, get_or_append_left, get_or-append_right, get_or-drop}
 use Rattle.std.proofs.lemmas.Bool.{cases_eq}
 use Rattle.language.specs.Language.{Stmt, Proc, proc_at}
 use Rattle.language.specs.Nodes.{node_at, IsStmt, StmtAt, entry_at, IsProc, Holds}
@@ -9,7 +9,7 @@ use Rattle.language.specs.declared.nodes.Node.{Node}
 use Rattle.language.specs.declared.nodes.Node.TheVariants as N
 use Rattle.language.specs.declared.nodes.Procedure.{Procedure}
 use Rattle.text.specs.Text.{signs_stmt}
-use Rattle.text.specs.Table.{ProcsAt}
+use Rattle.text.specs.Table.{ProcsAt, SameEntries}
 
 -- the f-th procedure, and those after it
 nth_proc : (ps : List Proc) (f : ℕ) → f < length ps → (p : Proc) × (drop f ps ≡ p ∷ drop (suc f) ps) × (proc_at ps f ≡ some p)
@@ -80,3 +80,10 @@ pub tabled_all : (nodes : List Node) (table others : List Procedure) (i f : ℕ)
 tabled_all nodes table others i f ps h l t = λ j p e.
     let b : j < f = omega (arith, proc_within ps j p e) in
     subst (λ (y : Procedure). IsProc nodes y p) (sym (get_or_append_left table others (record { locals = 0; body = 0 }) j (omega arith))) (t.right j p b e)
+
+-- the entries past those that are written are as they were
+pub entries_past : (items before : List Procedure) (f : ℕ) → length items ≡ f → SameEntries f before (items ++ drop f before)
+entries_past items before f l = λ j h.
+    let d : Procedure = record { locals = 0; body = 0 } in
+    let back : f + (j - f) ≡ j = omega arith in
+    get_or-append_right items (drop f before) f j d l h ∙ get_or-drop f before (j - f) d ∙ ap (entry_at before) back

@@ -50,7 +50,11 @@ WrittenAt Owed = WrittenPlain
 abbrev pub WrittenSoFar : Reader → List Node → List (List ℕ) → List Node → Type 0
 WrittenSoFar a = WrittenAt a.need a.signs
 
--- what stands in the array when the words have been read: within the limits, their bare nodes
-abbrev pub Filled : List (List ℕ) → List Node → Option Reader → Type 0
-Filled ws nodes None = Unit {0}
-Filled ws nodes (Some a) = a.fits ≡ true → a.signs ≤ most_signs → WrittenSoFar a nodes [] (bare_nodes ws).1
+-- the nodes at i and after are as they were
+abbrev pub SameFrom : ℕ → List Node → List Node → Type 0
+SameFrom i before after = (j : ℕ) → i ≤ j → node_at after j ≡ node_at before j
+
+-- what stands in the array when the words have been read: within the limits, their bare nodes; the others as before
+abbrev pub Filled : List (List ℕ) → List Node → List Node → Option Reader → Type 0
+Filled ws before after None = Unit {0}
+Filled ws before after (Some a) = (a.fits ≡ true → a.signs ≤ most_signs → WrittenSoFar a after [] (bare_nodes ws).1) × SameFrom a.signs before after

@@ -3,6 +3,7 @@ use Rattle.std.specs.Prelude.{◌≡◌, ℕ, zero, suc, ◌+◌, ◌<◌, ◌�
 use Rattle.language.specs.Nodes.{node_at, most_nodes}
 use Rattle.language.specs.declared.nodes.Node.{Node}
 use Rattle.language.specs.declared.nodes.Node.TheVariants as N
+use Rattle.text.specs.Filling.{SameFrom}
 
 -- where node i ends, by a list of ends
 abbrev pub end_of : List ℕ → ℕ → ℕ
@@ -78,7 +79,8 @@ pub record Ends (ends : List ℕ) : Type 0 where
 abbrev pub LinkedAt : List Node → List Node → List ℕ → ℕ → Type 0
 LinkedAt bare nodes ends i = (node_at nodes i ≡ linked_node (node_at bare i) i ends) × (end_of ends i ≡ node_end (node_at bare i) i ends)
 
--- each of the first n nodes does
+-- each of the first n nodes does; the others are as they were
 pub record Linked (bare nodes : List Node) (ends : List ℕ) (n : ℕ) : Type 0 where
   pub size : length nodes ≡ length bare
   pub first : (i : ℕ) → i < n → LinkedAt bare nodes ends i
+  pub others : SameFrom n bare nodes

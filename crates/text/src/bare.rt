@@ -99,7 +99,7 @@ impl Reader {
 // Reads a text, and writes its nodes as long as they are within the limits.
 pub(crate) fn read(text: &[u8], nodes: &mut [Node; MOST_NODES]) -> Option<Reader>
     ensures reads { result ≡ run (words text.now) fresh }
-    ensures fills { Filled (words text.now) nodes.new result }
+    ensures fills { Filled (words text.now) nodes.old nodes.new result }
 {
     let mut reader = Reader::new();
     for word in Words::of(text) {

@@ -40,7 +40,7 @@ fn linked(node: Node, i: usize, ends: &[u16; ENDS]) -> (Node, u16)
     }
 }
 
-// The first n nodes get the numbers of their parts.
+// The first n nodes get the numbers of their parts; the others stay.
 pub(crate) fn link(nodes: &mut [Node; MOST_NODES], n: usize)
     requires { n ≤ most_nodes }
     ensures { (ends : List ℕ) × Linked nodes.old nodes.new ends n }

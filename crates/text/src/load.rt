@@ -8,7 +8,7 @@ use crate::table::tabulate;
 use language::nodes::{MOST_NODES, Node, Sizes};
 use language::parsed::Parsed;
 
-// The program that a text is the writing of, if it is within the limits.
+// The program that a text is the writing of, if it is within the limits. Nodes and entries past the program's are blank.
 pub fn load(text: &[u8]) -> Result<Parsed, Refused>
     ensures { Loads text.now result }
 {

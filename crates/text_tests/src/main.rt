@@ -38,8 +38,12 @@ fn expand(heap: Global, line: &str) -> Result<Vec<u8>, AllocError> {
     for piece in line.split('{') {
         if let Some((repeated, tail)) = piece.split_once('}') {
             if let Some((count, words)) = repeated.split_once(':') {
-                let times = count.parse::<u32>().unwrap_or(0) as usize;
-                text.extend_from_slice(words.repeat(heap, times)?.as_bytes())?;
+                let times = count.parse::<u32>().unwrap_or(0);
+                // One by one: the library's `repeat` makes a string as long again.
+                let times = if words.is_empty() { 0 } else { times };
+                for _ in 0..times {
+                    text.extend_from_slice(words.as_bytes())?;
+                }
             }
             push_piece(&mut text, tail)?;
         } else {

@@ -101,8 +101,12 @@ fn repeat(heap: Global, line: &str) -> Result<String, AllocError> {
     for piece in line.split('{') {
         if let Some((repeated, tail)) = piece.split_once('}') {
             if let Some((count, words)) = repeated.split_once(':') {
-                let times = count.parse::<u32>().unwrap_or(0) as usize;
-                whole.push_str(words.repeat(heap, times)?.as_str())?;
+                let times = count.parse::<u32>().unwrap_or(0);
+                // One by one: the library's `repeat` makes a string as long again.
+                let times = if words.is_empty() { 0 } else { times };
+                for _ in 0..times {
+                    whole.push_str(words)?;
+                }
             }
             whole.push_str(tail)?;
         } else {

@@ -1,5 +1,5 @@
 use Rattle.std.proofs.Common.{◌∙◌, arith}
-use Rattle.text.proofs.Tables.{next_proc, next_inside, tabled_more, tabled_all}
+use Rattle.text.proofs.Tables.{next_proc, next_inside, tabled_more, tabled_all, entries_past}
 use Rattle.text.proofs.table.tabulate.Goals.{in-Proc, in_default}
 use Rattle.text.proofs.table.tabulate.Goals as goal
 
@@ -21,4 +21,7 @@ loop-entry-preserved c =
     }
 
 pub returns : goal.returns
-returns c = λ ps l h. tabled_all c.args.nodes.now c.loop-entry.entry-items _ c.loop-entry.at c.loop-entry.entry-index ps (omega (arith, l)) (omega arith) (c.loop-entry.invariant.tabled ps l h)
+returns c = record {
+  holds = λ ps l h. tabled_all c.args.nodes.now c.loop-entry.entry-items _ c.loop-entry.at c.loop-entry.entry-index ps (omega (arith, l)) (omega arith) (c.loop-entry.invariant.tabled ps l h);
+  others = entries_past c.loop-entry.entry-items _ c.args.count c.loop-entry.invariant.size;
+}
